@@ -1,0 +1,5 @@
+pub mod Causes
+pub mod Contents
+pub mod Names
+pub mod Outside
+pub mod Stored

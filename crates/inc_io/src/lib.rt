@@ -1,0 +1,33 @@
+//! The outside as the rest of incfs sees it: what is read, what is written, and how often that failed.
+//!
+//! Each trait says what a call does where the object tells what it holds, and in any case that it fails only where its count of
+//! faults rose. The memory forms tell everything, so tests and proofs can speak of their bytes.
+#![tactic(auto)]
+
+mod backing;
+mod bytes;
+mod failed;
+mod files;
+mod memory_file;
+mod memory_shelf;
+mod memory_sink;
+mod name;
+mod schedule;
+mod shelf;
+mod sink;
+
+pub use backing::Backing;
+pub use bytes::Bytes;
+pub use failed::{Failed, LendFault};
+pub use memory_file::MemFile;
+pub use memory_shelf::MemShelf;
+pub use memory_sink::MemSink;
+pub use name::{Name, NameList};
+pub use shelf::ReadShelf;
+pub use sink::Sink;
+
+/// The one answer that no clause ties to a cause: the allocator refused.
+pub type OutOfMemory = std::alloc::AllocError;
+
+#[cfg(test)]
+mod tests;
