@@ -1,12 +1,23 @@
-//! The words that every format crate shares: ids, digests and spans of a file.
+//! The words that every format crate shares: ids, digests, spans of a file, and numbers in its bytes.
+//!
+//! A number is stored with its least byte first. What is got from a place is the number that its bytes
+//! stand for, and what is put there is got again; no other byte changes.
 #![tactic(auto)]
 
+mod fields;
 mod span;
 
-pub use span::Span;
+pub use fields::{get_u16, get_u32, get_u48, get_u64, put_u16, put_u32, put_u48, put_u64};
+pub use span::{Span, SpanList};
+
+/// Want of memory: the one answer that no clause ties to a cause.
+pub type OutOfMemory = std::alloc::AllocError;
 
 /// A file's id: 16 bytes, as the header stores them.
 pub type Id = [u8; 16];
 
 /// A SHA-256 digest (FIPS 180-4): 32 bytes.
 pub type Digest32 = [u8; 32];
+
+#[cfg(test)]
+mod tests;

@@ -1,5 +1,5 @@
 -- The list behind a shelf in memory: files in the byte order of their names.
-use Rattle.std.specs.Prelude.{◌≡◌, ℕ, suc, if◌then◌else◌, IsTrue, List, [], ◌∷◌, map, Option}
+use Rattle.std.specs.Prelude.{ℕ, suc, if◌then◌else◌, IsTrue, List, [], ◌∷◌, map}
 use Rattle.std.specs.Ordering.{nat_cmp, is_gt}
 use Rattle.std.specs.Cmp.Lexicographic.{slice_cmp}
 use Rattle.std.specs.FinMap.{from_sorted, is_sorted}

@@ -48,7 +48,9 @@ fn names_are_judged_by_their_bytes(rt: HostRuntime) -> Result<(), Fail> {
 fn a_file_is_lent_and_read_by_places(rt: HostRuntime) -> Result<(), Fail> {
     let alloc = rt.alloc();
     let (mut shelf, name) = shelf_with(alloc, b"one", b"0123456789", MANY)?;
-    let mut file = shelf.open_read(&name).ok().ok_or("lent")?.ok_or("there")?;
+    let Ok(Some(mut file)) = shelf.open_read(&name) else {
+        return Ok(None::<()>.ok_or("the file is not lent")?);
+    };
     assert!(rt; shelf.bytes(&name).is_none());
     assert_eq!(rt; file.len(), Ok(10));
     let mut room = [0u8; 4];
@@ -93,8 +95,10 @@ fn planned_faults_come_at_their_calls(rt: HostRuntime) -> Result<(), Fail> {
     let alloc = rt.alloc();
     let (mut shelf, name) = shelf_with(alloc, b"one", b"0123456789", 1)?;
     shelf.fail([0u64].to_vec(alloc)?);
-    assert!(rt; matches!(shelf.open_read(&name), Err(LendFault::Failed)));
-    let mut file = shelf.open_read(&name).ok().ok_or("lent")?.ok_or("there")?;
+    assert!(rt; matches!(shelf.names(), Err(LendFault::Failed)));
+    let Ok(Some(mut file)) = shelf.open_read(&name) else {
+        return Ok(None::<()>.ok_or("the file is not lent")?);
+    };
     assert_eq!(rt; file.len(), Ok(10));
     assert_eq!(rt; file.len(), Err(Failed));
     assert_eq!(rt; file.faults(), 1);

@@ -1,0 +1,6 @@
+use Rattle.inc_cmd.proofs.AnswerLemmas.{words_kept}
+use Rattle.inc_cmd.proofs.run.run_plain.Goals as goal
+
+pub returns-in-Ok-clause-words : goal.returns-in-Ok-clause-words
+returns-in-Ok-clause-words g c =
+    words_kept _ c.in-Ok.outcome.status.0 c.finish.result.0 c.in-Ok.ensures.statuses c.in-Ok.ensures.words c.finish.ensures.bad_words c.finish.ensures.good_words

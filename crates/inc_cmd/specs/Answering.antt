@@ -1,0 +1,47 @@
+-- What the answering of a command gives.
+use Rattle.std.specs.Prelude.{◌≡◌, ℕ, List, take, Option, Some, Result, Ok, Err, IsSomeAnd}
+use Rattle.std.specs.FinMap.{get}
+use Rattle.inc_io.specs.Contents.{Contents}
+use Rattle.inc_io.specs.declared.failed.LendFault.{LendFault}
+use Rattle.inc_io.specs.declared.failed.LendFault.TheVariants.{Failed, OutOfMemory}
+use Rattle.inc_tree.specs.Geometry.{block_len}
+use Rattle.inc_tree.specs.Path.{IsProof}
+use Rattle.inc_layout.specs.Complete.{root_of_file, size_of}
+use Rattle.inc_cmd.specs.Outside.{Appends}
+use Rattle.inc_cmd.specs.Plain.{Answer}
+use Rattle.inc_cmd.specs.Words.{Command, Read, Misfit}
+use Rattle.inc_cmd.specs.declared.outcome.Outcome.{Outcome}
+
+-- status and text are those of this answer
+pub record IsOutcome (answer : Answer) (outcome : Outcome) : Type 0 where
+  pub status_is : outcome.status.0 ≡ answer.status
+  pub text_is : outcome.text.items ≡ answer.text
+
+-- the text is the content of a block whose path proves it against the file's root
+pub record ShowsProof (bytes : List ℕ) (index : ℕ) (text : List ℕ) : Type 0 where
+  pub block : List ℕ
+  pub path : List (List ℕ)
+  pub good : IsProof (root_of_file bytes) (size_of bytes) index block path
+  pub text_is : text ≡ take (block_len (size_of bytes) index) block
+
+-- where the status is 0, the text is a proved block of the named file
+abbrev pub ShowsProofOf : Command → Contents → Outcome → Type 0
+ShowsProofOf (Read name index) files outcome = outcome.status.0 ≡ 0 → IsSomeAnd (get files name) (λ bytes. ShowsProof bytes index outcome.text.items)
+ShowsProofOf (Misfit position) files outcome = outcome.status.0 ≡ 0 → ⊥
+
+-- the sink took a proved block
+pub record PrintsProof (bytes : List ℕ) (index : ℕ) (before after : Option (List ℕ)) : Type 0 where
+  pub text : List ℕ
+  pub proof : ShowsProof bytes index text
+  pub sent : Appends before after text
+
+-- the sink took a proved block of the named file
+abbrev pub PrintsProofOf : Command → Contents → Option (List ℕ) → Option (List ℕ) → Type 0
+PrintsProofOf (Read name index) files before after = IsSomeAnd (get files name) (λ bytes. PrintsProof bytes index before after)
+PrintsProofOf (Misfit position) files before after = ⊥
+
+-- the exit status so far
+abbrev pub status_of : Result Outcome LendFault → ℕ
+status_of (Ok outcome) = outcome.status.0
+status_of (Err Failed) = 5
+status_of (Err OutOfMemory) = 6

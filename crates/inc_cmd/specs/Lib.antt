@@ -1,0 +1,5 @@
+pub mod Answering
+pub mod Outside
+pub mod Parsing
+pub mod Plain
+pub mod Words

@@ -1,0 +1,78 @@
+ghost use Rattle.std.specs.Prelude.{◌≡◌, IfOk};
+ghost use Rattle.inc_cmd.specs.Plain.{block_line, corrupt_reason, missing, not_built, out_of_range, refused_line, words_line};
+
+use crate::OutOfMemory;
+use inc_tree::Digest32;
+use std::alloc::Global;
+
+/// `words K`
+#[tactic(auto, unfolding(crate::specs::Plain::words_line))]
+pub fn words_line(alloc: Global, position: usize) -> Result<Vec<u8>, OutOfMemory>
+    ensures value { IfOk result (λ line. line.items ≡ words_line position) }
+{
+    Ok(format!(in alloc; "words {position}\n")?.into_bytes())
+}
+
+/// `refused NAME WORD`
+#[tactic(auto, unfolding(crate::specs::Plain::refused_line))]
+pub fn refused_line(alloc: Global, name: &[u8], word: &[u8]) -> Result<Vec<u8>, OutOfMemory>
+    ensures value { IfOk result (λ line. line.items ≡ refused_line name.now word.now) }
+{
+    let mut line = b"refused ".to_vec(alloc)?;
+    line.extend_from_slice(name)?;
+    line.extend_from_slice(b" ")?;
+    line.extend_from_slice(word)?;
+    line.extend_from_slice(b"\n")?;
+    Ok(line)
+}
+
+/// `block I REASON`
+#[tactic(auto, unfolding(crate::specs::Plain::block_line))]
+pub fn block_line(alloc: Global, index: u32, reason: &[u8]) -> Result<Vec<u8>, OutOfMemory>
+    ensures value { IfOk result (λ line. line.items ≡ block_line index reason.now) }
+{
+    let mut line = format!(in alloc; "block {index} ")?.into_bytes();
+    line.extend_from_slice(reason)?;
+    line.extend_from_slice(b"\n")?;
+    Ok(line)
+}
+
+/// `corrupt level L wanted W got G`
+#[tactic(auto, unfolding(crate::specs::Plain::corrupt_reason))]
+pub fn corrupt_reason(
+    alloc: Global,
+    level: u32,
+    wanted: &Digest32,
+    got: &Digest32,
+) -> Result<Vec<u8>, OutOfMemory>
+    ensures value { IfOk result (λ reason. reason.items ≡ corrupt_reason level wanted.now got.now) }
+{
+    let wanted = hex::encode(alloc, wanted.as_slice())?;
+    let got = hex::encode(alloc, got.as_slice())?;
+    let mut reason = format!(in alloc; "corrupt level {level} wanted ")?.into_bytes();
+    reason.extend_from_slice(wanted.as_bytes())?;
+    reason.extend_from_slice(b" got ")?;
+    reason.extend_from_slice(got.as_bytes())?;
+    Ok(reason)
+}
+
+#[tactic(auto, unfolding(crate::specs::Plain::missing))]
+pub fn missing() -> &'static [u8]
+    ensures value { result.now ≡ missing }
+{
+    b"missing"
+}
+
+#[tactic(auto, unfolding(crate::specs::Plain::not_built))]
+pub fn not_built() -> &'static [u8]
+    ensures value { result.now ≡ not_built }
+{
+    b"not-built"
+}
+
+#[tactic(auto, unfolding(crate::specs::Plain::out_of_range))]
+pub fn out_of_range() -> &'static [u8]
+    ensures value { result.now ≡ out_of_range }
+{
+    b"out-of-range"
+}

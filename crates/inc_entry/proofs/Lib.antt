@@ -1,0 +1,2 @@
+pub mod AreaLists
+pub mod Rows

@@ -1,0 +1,14 @@
+//! The file header: the first 56 bytes of a backing file.
+//!
+//! A header is read exactly where its bytes are the one spelling of a header, whatever follows them;
+//! else the fault is that of the first test that they fail.
+#![tactic(auto)]
+
+mod header;
+mod reading;
+
+pub use header::{Header, HeaderFault, HeaderKind};
+pub use reading::{HEADER_LEN, read_header};
+
+#[cfg(test)]
+mod tests;

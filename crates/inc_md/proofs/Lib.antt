@@ -1,0 +1,5 @@
+pub mod Reading
+pub mod Stepping
+pub mod Chains
+pub mod ChainLaws
+pub mod ChainSaid

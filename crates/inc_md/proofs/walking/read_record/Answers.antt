@@ -1,0 +1,8 @@
+use Rattle.inc_md.proofs.Stepping.{told_record}
+use Rattle.inc_md.proofs.walking.read_record.Goals as goal
+
+pub returns-clause-said : goal.returns-clause-said
+returns-clause-said g c =
+    told_record _ c.args.len c.args.at c.in_ok-head.head c.args.records.now c.read_fields.new.records c.push.new.self
+    c.in_ok-check_place.ensures.inside c.in_ok-check_head.ensures.inside c.in_ok-push.ensures.ok
+    c.requires c.in_ok-head.ensures.value (rw c.in_ok-head.ensures.kept at c.in_ok-read_fields.ensures.value)

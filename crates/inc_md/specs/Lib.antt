@@ -1,0 +1,4 @@
+pub mod Record
+pub mod Chain
+pub mod Outcome
+pub mod Step

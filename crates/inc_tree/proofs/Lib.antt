@@ -1,0 +1,3 @@
+pub mod LevelLemmas
+pub mod PathLemmas
+pub mod VerifyLemmas

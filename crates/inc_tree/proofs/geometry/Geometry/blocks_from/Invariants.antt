@@ -1,0 +1,7 @@
+use Rattle.std.proofs.Common.{◌≡◌, ◌+◌, drop}
+use Rattle.inc_tree.specs.Geometry.{level_counts, total}
+use Rattle.inc_tree.proofs.geometry.Geometry.blocks_from.Given as goal
+
+abbrev pub invariant-loop-above : goal.invariant-loop-above
+invariant-loop-above l =
+    l.blocks + total (drop l.above (level_counts l.self-inside.size)) ≡ total (drop l.level (level_counts l.self-inside.size))

@@ -1,0 +1,6 @@
+pub mod Cached
+pub mod Geometry
+pub mod Inverse
+pub mod Limits
+pub mod Path
+pub mod Verified
