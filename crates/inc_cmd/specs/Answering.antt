@@ -1,5 +1,5 @@
 -- What the answering of a command gives.
-use Rattle.std.specs.Prelude.{◌≡◌, ℕ, List, take, Option, Some, Result, Ok, Err, IsSomeAnd}
+use Rattle.std.specs.Prelude.{◌≡◌, ℕ, List, take, Option, Result, Ok, Err, IsSomeAnd}
 use Rattle.std.specs.FinMap.{get}
 use Rattle.inc_io.specs.Contents.{Contents}
 use Rattle.inc_io.specs.declared.failed.LendFault.{LendFault}

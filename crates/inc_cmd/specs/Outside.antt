@@ -1,5 +1,5 @@
 -- How a run of a command meets the outside.
-use Rattle.std.specs.Prelude.{◌≡◌, ◌≢◌, ◌⊎◌, ℕ, ◌<◌, ◌++◌, List, Option, IfSome, option_map}
+use Rattle.std.specs.Prelude.{◌≡◌, ◌≢◌, ◌⊎◌, ℕ, ◌<◌, ◌++◌, List, Option, option_map}
 use Rattle.inc_io.specs.Causes.{Rose}
 use Rattle.inc_cmd.specs.Plain.{Answer}
 use Rattle.inc_cmd.specs.Words.{Command, Read, Misfit}

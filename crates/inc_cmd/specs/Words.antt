@@ -1,7 +1,7 @@
 -- The words of a command. Words that fit no row are refused by the position of the first that doesn't fit, or by their number where more are needed.
 --
 --     read NAME INDEX      INDEX is a u32
-use Rattle.std.specs.Prelude.{ℕ, ◌+◌, ◌-◌, ◌*◌, ◌^◌, ◌&&◌, nat_le, Bool, if◌then◌else◌, List, [], ◌∷◌, length, map, Option, Some, None, codes, bytes_eq}
+use Rattle.std.specs.Prelude.{ℕ, ◌+◌, ◌-◌, ◌*◌, ◌^◌, ◌&&◌, nat_le, Bool, if◌then◌else◌, List, [], ◌∷◌, length, Option, Some, None, codes, bytes_eq}
 use Rattle.std.specs.Str.{all_ascii_digits}
 use Rattle.inc_io.specs.Names.{is_name}
 

@@ -3,12 +3,11 @@ ghost use Rattle.inc_io.specs.Causes.{Rose};
 ghost use Rattle.inc_io.specs.declared.failed.LendFault.TheVariants.{Failed as lend_failed};
 
 use inc_io::{Backing, Failed, LendFault, Name, NameList, ReadShelf};
-use std::fs;
 use std::fs::{File, OpenFile};
-use std::io;
 use std::io::ErrorKind;
 use std::os::unix::fs::FileExt;
 use std::rt::Files;
+use std::{fs, io};
 
 /// The regular files of the current folder as a shelf. It tells nothing but its count of faults.
 #[derive(Drop)]
@@ -39,7 +38,9 @@ impl<'a, R: Files<File = File> + AllocGlobal + Clone + Drop> FolderShelf<'a, R> 
 }
 
 /// The names of the current folder's regular files, in no order. What is no `Name` is passed over.
-fn listed<R: Files<File = File> + AllocGlobal + Clone + Drop>(rt: &R) -> Result<Vec<Name>, LendFault> {
+fn listed<R: Files<File = File> + AllocGlobal + Clone + Drop>(
+    rt: &R,
+) -> Result<Vec<Name>, LendFault> {
     let mut names = Vec::new(rt.alloc());
     let Ok(entries) = fs::read_dir(rt, ".") else {
         return Err(LendFault::Failed);

@@ -1,4 +1,4 @@
-use Rattle.std.proofs.Common.{◌≡◌, ◌==◌, length, true, refl, sym, ◌∙◌, rules, arith}
+use Rattle.std.proofs.Common.{refl, sym, ◌∙◌}
 use Rattle.std.proofs.lemmas.Bool.{eqb-true}
 use Rattle.inc_cmd.proofs.OutputLemmas.{sent_none, sent_more, front_sent, all_sent}
 use Rattle.inc_cmd.proofs.output.write_all.Goals as goal
