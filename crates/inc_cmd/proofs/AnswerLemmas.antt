@@ -4,15 +4,15 @@ use Rattle.std.specs.Prelude.{IfSome, IfOk, IsSomeAnd, is_some}
 use Rattle.std.specs.FinMap.{get}
 use Rattle.inc_io.specs.Contents.{Contents}
 use Rattle.inc_io.specs.declared.failed.LendFault.{LendFault}
-use Rattle.inc_layout.specs.Answers.{Answers}
-use Rattle.inc_layout.specs.declared.first_error.FirstError.{FirstError}
+use Rattle.inc_cmd.specs.Reading.{Answers}
+use Rattle.inc_cmd.specs.declared.refusal.Refusal.{Refusal}
 use Rattle.inc_tree.specs.declared.verified.Verified.{Verified}
 use Rattle.inc_cmd.specs.Outside.{WordsAreTold}
 use Rattle.inc_cmd.specs.Words.{Command, Read, Misfit}
 use Rattle.inc_cmd.specs.Answering.{ShowsProof}
 use Rattle.inc_cmd.specs.declared.outcome.Outcome.{Outcome}
 
-pub found_proof : (told : Option Contents) (name : List ℕ) (index : ℕ) (reads : Option (List ℕ)) (read : Result Verified FirstError) (result : Result Outcome LendFault)
+pub found_proof : (told : Option Contents) (name : List ℕ) (index : ℕ) (reads : Option (List ℕ)) (read : Result Verified Refusal) (result : Result Outcome LendFault)
     → IfSome told (λ files. true ≡ is_some (get files name))
     → IfSome told (λ files. reads ≡ get files name)
     → IfSome reads (λ bytes. Answers bytes index read)

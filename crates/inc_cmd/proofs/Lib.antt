@@ -1,3 +1,4 @@
 pub mod NumberLemmas
 pub mod OutputLemmas
 pub mod AnswerLemmas
+pub mod ReadingLemmas

@@ -6,7 +6,9 @@ use Rattle.inc_io.specs.declared.failed.LendFault.{LendFault}
 use Rattle.inc_io.specs.declared.failed.LendFault.TheVariants.{Failed, OutOfMemory}
 use Rattle.inc_tree.specs.Geometry.{block_len}
 use Rattle.inc_tree.specs.Path.{IsProof}
-use Rattle.inc_layout.specs.Complete.{root_of_file, size_of}
+use Rattle.inc_layout.specs.Backing.{IsBackingFile}
+use Rattle.inc_layout.specs.StaticRead.{size_in}
+use Rattle.inc_layout.specs.declared.opened.Opened.{Opened}
 use Rattle.inc_cmd.specs.Outside.{Appends}
 use Rattle.inc_cmd.specs.Plain.{Answer}
 use Rattle.inc_cmd.specs.Words.{Command, Read, Misfit}
@@ -17,12 +19,14 @@ pub record IsOutcome (answer : Answer) (outcome : Outcome) : Type 0 where
   pub status_is : outcome.status.0 ≡ answer.status
   pub text_is : outcome.text.items ≡ answer.text
 
--- the text is the content of a block whose path proves it against the file's root
+-- the text is the content of a block whose path proves it against the root that the file's signature names
 pub record ShowsProof (bytes : List ℕ) (index : ℕ) (text : List ℕ) : Type 0 where
+  pub opened : Opened
+  pub stands : IsBackingFile bytes opened
   pub block : List ℕ
   pub path : List (List ℕ)
-  pub good : IsProof (root_of_file bytes) (size_of bytes) index block path
-  pub text_is : text ≡ take (block_len (size_of bytes) index) block
+  pub good : IsProof opened.sig.root (size_in opened) index block path
+  pub text_is : text ≡ take (block_len (size_in opened) index) block
 
 -- where the status is 0, the text is a proved block of the named file
 abbrev pub ShowsProofOf : Command → Contents → Outcome → Type 0

@@ -3,3 +3,6 @@ pub mod Outside
 pub mod Parsing
 pub mod Plain
 pub mod Words
+pub mod Reading
+pub mod Refusals
+pub mod Refusing

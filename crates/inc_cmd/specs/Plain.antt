@@ -6,12 +6,17 @@
 --     4   a block can't be shown
 --     5   the shelf, a file or the output failed
 --     6   out of memory
-use Rattle.std.specs.Prelude.{ℕ, ◌++◌, List, [], ◌∷◌, Option, Some, None, codes}
+use Rattle.std.specs.Prelude.{ℕ, ◌++◌, List, [], ◌∷◌, Option, Some, None, Result, Ok, Err, codes}
 use Rattle.std.specs.FinMap.{get}
 use Rattle.std.specs.Fmt.{decimal}
 use Rattle.hex.specs.Hex.{encode_lower}
 use Rattle.inc_io.specs.Contents.{Contents}
-use Rattle.inc_layout.specs.Read.{Reading, Content, NotBuilt, OutOfRange, Corrupt, reading_of}
+use Rattle.inc_layout.specs.declared.static_error.StaticError.{StaticError}
+use Rattle.inc_layout.specs.declared.static_error.StaticError.TheVariants as block
+use Rattle.inc_cmd.specs.Reading.{reading_of}
+use Rattle.inc_cmd.specs.Refusals.{layout_word}
+use Rattle.inc_cmd.specs.declared.refusal.Refusal.{Refusal}
+use Rattle.inc_cmd.specs.declared.refusal.Refusal.TheVariants.{Layout, Block, ReadFault, OutOfMemory}
 use Rattle.inc_cmd.specs.Words.{Command, Read, Misfit, command_of}
 
 pub record Answer : Type 0 where
@@ -37,17 +42,28 @@ corrupt_reason level wanted got = codes "corrupt level " ++ decimal level ++ cod
 unfoldable pub missing : List ℕ
 missing = codes "missing"
 
-unfoldable pub not_built : List ℕ
-not_built = codes "not-built"
+-- `path-absent K`
+unfoldable pub path_absent_reason : ℕ → List ℕ
+path_absent_reason hash = codes "path-absent " ++ decimal hash
 
-unfoldable pub out_of_range : List ℕ
-out_of_range = codes "out-of-range"
+-- why a block of an opened file can't be shown
+unfoldable pub reason_of : StaticError → List ℕ
+reason_of block.OutOfRange = codes "out-of-range"
+reason_of block.Damaged = codes "damaged"
+reason_of block.Compressed = codes "compressed"
+reason_of block.Absent = codes "absent"
+reason_of (block.PathAbsent hash) = path_absent_reason hash
+reason_of (block.Corrupt level wanted got) = corrupt_reason level wanted got
+reason_of block.ReadFault = []
+reason_of block.OutOfMemory = []
 
-abbrev pub shown : List ℕ → ℕ → Reading → Answer
-shown name index (Content content) = record { status = 0; text = content }
-shown name index NotBuilt = record { status = 3; text = refused_line name not_built }
-shown name index OutOfRange = record { status = 4; text = block_line index out_of_range }
-shown name index (Corrupt level wanted got) = record { status = 4; text = block_line index (corrupt_reason level wanted got) }
+-- a failing device and want of memory are no readings, and their rows are never met
+abbrev pub shown : List ℕ → ℕ → Result (List ℕ) Refusal → Answer
+shown name index (Ok content) = record { status = 0; text = content }
+shown name index (Err (Layout fault)) = record { status = 3; text = refused_line name (layout_word fault) }
+shown name index (Err (Block error)) = record { status = 4; text = block_line index (reason_of error) }
+shown name index (Err ReadFault) = record { status = 5; text = [] }
+shown name index (Err OutOfMemory) = record { status = 6; text = [] }
 
 abbrev pub read_answer : List ℕ → ℕ → Option (List ℕ) → Answer
 read_answer name index None = record { status = 3; text = refused_line name missing }

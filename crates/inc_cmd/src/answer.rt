@@ -4,23 +4,25 @@ ghost use Rattle.std.specs.String.{string_bytes};
 ghost use Rattle.inc_io.specs.Causes.{HasCauseAt};
 ghost use Rattle.inc_io.specs.Outside.{NoneOut};
 ghost use Rattle.inc_io.specs.declared.failed.LendFault.TheVariants.{Failed as lend_failed};
-ghost use Rattle.inc_layout.specs.Answers.{Answers};
-ghost use Rattle.inc_layout.specs.Read.{reading_of};
-ghost use Rattle.inc_layout.specs.declared.first_error.FirstError.TheVariants.{ReadFault as read_fault};
+ghost use Rattle.inc_cmd.specs.Reading.{Answers, reading_of};
+ghost use Rattle.inc_cmd.specs.declared.refusal.Refusal.TheVariants.{ReadFault as read_fault};
 ghost use Rattle.inc_cmd.specs.Answering.{IsOutcome, ShowsProof, ShowsProofOf, status_of};
 ghost use Rattle.inc_cmd.specs.Outside.{WordsAreTold};
-ghost use Rattle.inc_cmd.specs.Plain.{block_line, corrupt_reason, plain, read_answer, shown};
+ghost use Rattle.inc_cmd.specs.Plain.{block_line, plain, read_answer, reason_of, shown};
 ghost use Rattle.inc_cmd.specs.Words.{command_of};
 
 use crate::outcome::Outcome;
+use crate::reading::read_block;
+use crate::refusal::Refusal;
+use crate::refusals::layout_word;
 use crate::text::{
-    block_line, corrupt_reason, missing, not_built, out_of_range, refused_line, words_line,
+    block_line, corrupt_reason, missing, path_absent_reason, refused_line, words_line,
 };
 use crate::words::{Command, WordsFault, parse_words};
 use crate::{OutOfMemory, Status};
 use inc_io::{LendFault, Name, ReadShelf};
-use inc_layout::{FirstError, read_first};
-use inc_tree::{Digest32, Verified};
+use inc_layout::StaticError;
+use inc_tree::Verified;
 use std::alloc::Global;
 
 /// Does a command, up to the writing of its text. `LendFault::Failed` stands for a fault of the shelf or of a file on it.
@@ -74,7 +76,7 @@ fn read<S: ReadShelf>(
             text: refused_line(alloc, name.as_slice(), missing())?,
         });
     };
-    let read = read_first(alloc, &mut file, index);
+    let read = read_block(alloc, &mut file, index);
     shelf.close_read(name, file);
     show(alloc, name, index, read)
 }
@@ -84,7 +86,7 @@ fn show(
     alloc: Global,
     name: &Name,
     index: u32,
-    read: Result<Verified, FirstError>,
+    read: Result<Verified, Refusal>,
 ) -> Result<Outcome, LendFault>
     ensures shown { (bytes : _) → Answers bytes index read → IfOk result (IsOutcome (shown name.now index (reading_of bytes index))) }
     ensures proved { (bytes : _) → Answers bytes index read →
@@ -99,33 +101,39 @@ fn show(
             status: Status::DONE,
             text: block.content().to_vec(alloc)?,
         }),
-        Err(FirstError::NotBuilt) => Ok(Outcome {
+        Err(Refusal::Layout(fault)) => Ok(Outcome {
             status: Status::REFUSED,
-            text: refused_line(alloc, name.as_slice(), not_built())?,
+            text: refused_line(alloc, name.as_slice(), layout_word(fault))?,
         }),
-        Err(FirstError::OutOfRange) => Ok(Outcome {
+        Err(Refusal::Block(error)) => Ok(Outcome {
             status: Status::NOT_SHOWN,
-            text: block_line(alloc, index, out_of_range())?,
+            text: error_line(alloc, index, error)?,
         }),
-        Err(FirstError::Corrupt { level, wanted, got }) => Ok(Outcome {
-            status: Status::NOT_SHOWN,
-            text: corrupt_line(alloc, index, level, &wanted, &got)?,
-        }),
-        Err(FirstError::ReadFault) => Err(LendFault::Failed),
-        Err(FirstError::OutOfMemory) => Err(LendFault::OutOfMemory),
+        Err(Refusal::ReadFault) => Err(LendFault::Failed),
+        Err(Refusal::OutOfMemory) => Err(LendFault::OutOfMemory),
     }
 }
 
-/// The line of a block whose path fails.
-fn corrupt_line(
-    alloc: Global,
-    index: u32,
-    level: u32,
-    wanted: &Digest32,
-    got: &Digest32,
-) -> Result<Vec<u8>, OutOfMemory>
-    ensures value { IfOk result (λ line. line.items ≡ block_line index (corrupt_reason level wanted.now got.now)) }
+/// The line of a block that can't be shown.
+fn error_line(alloc: Global, index: u32, error: StaticError) -> Result<Vec<u8>, OutOfMemory>
+    ensures value { IfOk result (λ line. line.items ≡ block_line index (reason_of error)) }
 {
-    let reason = corrupt_reason(alloc, level, wanted, got)?;
+    let reason = reason(alloc, error)?;
     block_line(alloc, index, reason.as_slice())
+}
+
+/// Why a block can't be shown, in words.
+#[tactic(auto, unfolding(crate::specs::Plain::reason_of))]
+fn reason(alloc: Global, error: StaticError) -> Result<Vec<u8>, OutOfMemory>
+    ensures value { IfOk result (λ reason. reason.items ≡ reason_of error) }
+{
+    match error {
+        StaticError::OutOfRange => b"out-of-range".to_vec(alloc),
+        StaticError::Damaged => b"damaged".to_vec(alloc),
+        StaticError::Compressed => b"compressed".to_vec(alloc),
+        StaticError::Absent => b"absent".to_vec(alloc),
+        StaticError::PathAbsent { hash } => path_absent_reason(alloc, hash),
+        StaticError::Corrupt { level, wanted, got } => corrupt_reason(alloc, level, &wanted, &got),
+        StaticError::ReadFault | StaticError::OutOfMemory => Ok(Vec::new(alloc)),
+    }
 }

@@ -7,6 +7,9 @@
 mod answer;
 mod outcome;
 mod output;
+mod reading;
+mod refusal;
+mod refusals;
 mod run;
 mod status;
 mod text;

@@ -1,7 +1,9 @@
 mod image;
 
 use crate::run_plain;
-use image::{DATA_TURNED, HASH_TURNED, content, image, turned};
+use image::{
+    COMPRESSED, DATA_TURNED, ENTRY_ANSWERS, HASH_TURNED, LAYOUT_FAULTS, changed, content, image,
+};
 use inc_io::{Bytes, MemShelf, MemSink, Name};
 use std::alloc::Global;
 use std::test::Fail;
@@ -30,6 +32,11 @@ fn answer_over(
     }
     let status = run_plain(alloc, list.as_slice(), &mut shelf, &mut out);
     Ok((status.0, out.bytes().to_vec(alloc)?))
+}
+
+/// What `read two INDEX` answers over these bytes.
+fn read_two(alloc: Global, index: &str, bytes: &[u8]) -> Result<(u8, Vec<u8>), Fail> {
+    answer_over(alloc, &["read", "two", index], "two", bytes, MANY, &[], &[])
 }
 
 #[test]
@@ -80,42 +87,53 @@ fn words_that_fit_no_command_are_named_by_place(rt: HostRuntime) -> Result<(), F
 }
 
 #[test]
-fn what_is_no_complete_small_file_is_refused(rt: HostRuntime) -> Result<(), Fail> {
+fn each_layout_fault_has_its_word(rt: HostRuntime) -> Result<(), Fail> {
     let alloc = rt.alloc();
     let whole = image(alloc)?;
-    let short = whole.as_slice().get(..16383).ok_or("16384 bytes")?;
-    for (name, bytes, wanted) in [
-        ("no", whole.as_slice(), "refused two missing\n"),
-        ("two", b"junk".as_slice(), "refused two not-built\n"),
-        ("two", short, "refused two not-built\n"),
-        (
-            "two",
-            turned(alloc, whole.as_slice(), 0)?.as_slice(),
-            "refused two not-built\n",
-        ),
-        (
-            "two",
-            turned(alloc, whole.as_slice(), 257)?.as_slice(),
-            "refused two not-built\n",
-        ),
-        (
-            "two",
-            turned(alloc, whole.as_slice(), 300)?.as_slice(),
-            "refused two not-built\n",
-        ),
-    ] {
-        let (status, text) = answer_over(
-            alloc,
-            &["read", "two", "0"],
-            name,
-            bytes,
-            MANY,
-            &[],
-            &[],
-        )?;
-        assert_eq!(rt; status, 3);
-        assert!(rt; text.as_slice() == wanted.as_bytes(), "wanted {wanted}");
+    let short = whole.as_slice().get(..55).ok_or("16384 bytes")?;
+    let (status, text) = read_two(alloc, "0", short)?;
+    assert_eq!(rt; status, 3);
+    assert!(rt; text.as_slice() == b"refused two short\n".as_slice());
+    for (changes, word) in LAYOUT_FAULTS {
+        let file = changed(alloc, whole.as_slice(), &changes)?;
+        let (status, text) = read_two(alloc, "0", file.as_slice())?;
+        let line = format!(in alloc; "refused two {word}\n")?;
+        assert_eq!(rt; status, 3, "at {word}");
+        assert!(rt; text.as_slice() == line.as_bytes(), "at {word}");
     }
+    Ok(())
+}
+
+#[test]
+fn each_class_of_an_entry_is_told(rt: HostRuntime) -> Result<(), Fail> {
+    let alloc = rt.alloc();
+    let whole = image(alloc)?;
+    for (changes, line) in ENTRY_ANSWERS {
+        let file = changed(alloc, whole.as_slice(), &changes)?;
+        let (status, text) = read_two(alloc, "0", file.as_slice())?;
+        assert_eq!(rt; status, 4, "at {line}");
+        assert!(rt; text.as_slice() == line.as_bytes(), "at {line}");
+    }
+    let compressed = changed(alloc, whole.as_slice(), &COMPRESSED)?;
+    let (status, text) = read_two(alloc, "1", compressed.as_slice())?;
+    assert_eq!(rt; status, 0);
+    assert_eq!(rt; text.len(), 904);
+    Ok(())
+}
+
+#[test]
+fn a_last_block_may_be_stored_by_its_own_length(rt: HostRuntime) -> Result<(), Fail> {
+    let alloc = rt.alloc();
+    let whole = image(alloc)?;
+    let own = changed(
+        alloc,
+        whole.as_slice(),
+        &[(266, 0x88), (267, 0x03), (267, 0x03)],
+    )?;
+    let file = own.as_slice().get(..13192).ok_or("16384 bytes")?;
+    let (status, text) = read_two(alloc, "1", file)?;
+    assert_eq!(rt; status, 0);
+    assert!(rt; Some(text.as_slice()) == content(alloc)?.as_slice().get(4096..));
     Ok(())
 }
 
@@ -123,8 +141,8 @@ fn what_is_no_complete_small_file_is_refused(rt: HostRuntime) -> Result<(), Fail
 fn a_turned_bit_is_named_with_its_level_and_digests(rt: HostRuntime) -> Result<(), Fail> {
     let alloc = rt.alloc();
     let whole = image(alloc)?;
-    for (at, wanted) in [(8192, DATA_TURNED), (4128, HASH_TURNED)] {
-        let file = turned(alloc, whole.as_slice(), at)?;
+    for (change, wanted) in [((8192, 0x06), DATA_TURNED), ((4128, 0x37), HASH_TURNED)] {
+        let file = changed(alloc, whole.as_slice(), &[change, change, change])?;
         let (status, text) = answer_over(
             alloc,
             &["read", "two", "0"],
@@ -160,12 +178,12 @@ fn each_failing_call_ends_as_a_fault(rt: HostRuntime) -> Result<(), Fail> {
     let (status, text) = answer_over(alloc, &words, "two", file.as_slice(), MANY, &[0], &[])?;
     assert_eq!(rt; status, 5);
     assert!(rt; text.is_empty());
-    for calls in 0..5 {
+    for calls in 0..14 {
         let (status, text) = answer_over(alloc, &words, "two", file.as_slice(), calls, &[], &[])?;
         assert_eq!(rt; status, 5, "past {calls} calls");
         assert!(rt; text.is_empty());
     }
-    let (status, text) = answer_over(alloc, &words, "two", file.as_slice(), 5, &[], &[0])?;
+    let (status, text) = answer_over(alloc, &words, "two", file.as_slice(), MANY, &[], &[0])?;
     assert_eq!(rt; status, 5);
     assert!(rt; text.is_empty());
     let (status, text) = answer_over(
@@ -173,13 +191,13 @@ fn each_failing_call_ends_as_a_fault(rt: HostRuntime) -> Result<(), Fail> {
         &["read", "two", "0"],
         "two",
         file.as_slice(),
-        5,
+        MANY,
         &[],
         &[1],
     )?;
     assert_eq!(rt; status, 5);
     assert!(rt; Some(text.as_slice()) == content.as_slice().get(..1000));
-    let (status, _) = answer_over(alloc, &["reed"], "two", file.as_slice(), 5, &[], &[0])?;
+    let (status, _) = answer_over(alloc, &["reed"], "two", file.as_slice(), MANY, &[], &[0])?;
     assert_eq!(rt; status, 1);
     Ok(())
 }

@@ -1,5 +1,5 @@
 ghost use Rattle.std.specs.Prelude.{◌≡◌, IfOk};
-ghost use Rattle.inc_cmd.specs.Plain.{block_line, corrupt_reason, missing, not_built, out_of_range, refused_line, words_line};
+ghost use Rattle.inc_cmd.specs.Plain.{block_line, corrupt_reason, missing, path_absent_reason, refused_line, words_line};
 
 use crate::OutOfMemory;
 use inc_tree::Digest32;
@@ -63,16 +63,10 @@ pub fn missing() -> &'static [u8]
     b"missing"
 }
 
-#[tactic(auto, unfolding(crate::specs::Plain::not_built))]
-pub fn not_built() -> &'static [u8]
-    ensures value { result.now ≡ not_built }
+/// `path-absent K`
+#[tactic(auto, unfolding(crate::specs::Plain::path_absent_reason))]
+pub fn path_absent_reason(alloc: Global, hash: u32) -> Result<Vec<u8>, OutOfMemory>
+    ensures value { IfOk result (λ reason. reason.items ≡ path_absent_reason hash) }
 {
-    b"not-built"
-}
-
-#[tactic(auto, unfolding(crate::specs::Plain::out_of_range))]
-pub fn out_of_range() -> &'static [u8]
-    ensures value { result.now ≡ out_of_range }
-{
-    b"out-of-range"
+    Ok(format!(in alloc; "path-absent {hash}")?.into_bytes())
 }

@@ -1,5 +1,10 @@
+pub mod BackingMeaning
 pub mod BoolLemmas
-pub mod CompleteLemmas
-pub mod MeaningLemmas
-pub mod PartsLemmas
-pub mod ReadLemmas
+pub mod ClearLemmas
+pub mod EntryLemmas
+pub mod FixedMeaning
+pub mod FixedSteps
+pub mod ListedLemmas
+pub mod LoopSteps
+pub mod OpeningSteps
+pub mod StaticSteps

@@ -1,4 +1,8 @@
-pub mod Answers
-pub mod Complete
+pub mod Backing
+pub mod Faults
+pub mod Fixed
+pub mod Listed
+pub mod Opening
 pub mod Parts
-pub mod Read
+pub mod StaticRead
+pub mod Told

@@ -61,11 +61,65 @@ pub fn image(alloc: Global) -> Result<Vec<u8>, AllocError> {
     Ok(file)
 }
 
-/// A copy with the lowest bit of one byte turned.
-pub fn turned(alloc: Global, file: &[u8], at: usize) -> Result<Vec<u8>, AllocError> {
+/// Up to three bytes of a file, each with its place and its new value. Where fewer change, the last one stands again.
+pub type Changes = [(usize, u8); 3];
+
+/// The changes by which a file is refused, each by one word.
+pub const LAYOUT_FAULTS: [(Changes, &str); 30] = [
+    ([(0, 72), (0, 72), (0, 72)], "bad-magic"),
+    ([(8, 2), (8, 2), (8, 2)], "bad-version"),
+    ([(16, 57), (16, 57), (16, 57)], "bad-header-size"),
+    ([(19, 32), (19, 32), (19, 32)], "bad-block-size"),
+    ([(20, 1), (20, 1), (20, 1)], "bad-flags"),
+    ([(20, 2), (20, 2), (20, 2)], "bad-mapping"),
+    ([(20, 2), (24, 0), (24, 0)], "mapped"),
+    ([(36, 1), (36, 1), (36, 1)], "too-large"),
+    ([(25, 128), (25, 128), (25, 128)], "outside"),
+    ([(57, 36), (57, 36), (57, 36)], "bad-size"),
+    ([(91, 1), (92, 35), (92, 35)], "two-maps"),
+    ([(138, 3), (139, 47), (139, 47)], "two-signatures"),
+    ([(63, 57), (63, 57), (63, 57)], "not-rising"),
+    ([(56, 9), (56, 9), (56, 9)], "no-map"),
+    ([(91, 9), (91, 9), (91, 9)], "unsigned"),
+    ([(114, 161), (115, 31), (115, 31)], "signature-too-long"),
+    ([(120, 1), (120, 1), (120, 1)], "signature-outside"),
+    ([(114, 3), (114, 3), (114, 3)], "signature-short"),
+    ([(193, 3), (193, 3), (193, 3)], "signature-bad-version"),
+    ([(114, 58), (114, 58), (114, 58)], "signature-trailing"),
+    ([(201, 2), (201, 2), (201, 2)], "signature-bad-algorithm"),
+    (
+        [(205, 13), (205, 13), (205, 13)],
+        "signature-bad-block-size",
+    ),
+    ([(206, 1), (206, 1), (206, 1)], "signature-salted"),
+    ([(210, 31), (210, 31), (210, 31)], "signature-bad-root-size"),
+    ([(87, 4), (87, 4), (87, 4)], "map-count"),
+    ([(81, 1), (81, 1), (81, 1)], "map-outside"),
+    ([(126, 1), (126, 1), (126, 1)], "tree-size"),
+    ([(132, 1), (132, 1), (132, 1)], "tree-outside"),
+    ([(79, 240), (79, 240), (79, 240)], "overlap"),
+    ([(252, 1), (252, 1), (252, 1)], "place-past-end"),
+];
+
+/// The changes by which block 0 isn't there any more.
+pub const ENTRY_ANSWERS: [(Changes, &str); 5] = [
+    ([(251, 0), (251, 0), (251, 0)], "block 0 damaged\n"),
+    ([(256, 132), (257, 3), (258, 1)], "block 0 compressed\n"),
+    ([(257, 0), (257, 0), (257, 0)], "block 0 absent\n"),
+    ([(257, 5), (257, 5), (257, 5)], "block 0 absent\n"),
+    ([(277, 0), (277, 0), (277, 0)], "block 0 path-absent 0\n"),
+];
+
+/// Entry 0 with compressed data of 900 bytes.
+pub const COMPRESSED: Changes = [(256, 0x84), (257, 3), (258, 1)];
+
+/// A copy with other bytes at these places.
+pub fn changed(alloc: Global, file: &[u8], changes: &Changes) -> Result<Vec<u8>, AllocError> {
     let mut copy = file.to_vec(alloc)?;
-    if let Some(byte) = copy.get_mut(at) {
-        *byte ^= 1;
+    for (at, value) in changes {
+        if let Some(byte) = copy.get_mut(*at) {
+            *byte = *value;
+        }
     }
     Ok(copy)
 }

@@ -1,0 +1,115 @@
+ghost use Rattle.std.specs.Prelude.{◌≡◌, ◌≢◌, ◌+◌, ◌≤◌, Ok, Err, IfOk, OnOk};
+ghost use Rattle.inc_bytes.specs.Tests.{first_failing, judge};
+ghost use Rattle.inc_entry.specs.Entry.{areas_of, places_of};
+ghost use Rattle.inc_header.specs.Header.{header_of};
+ghost use Rattle.inc_layout.specs.Fixed.{are_apart, area_tests, blob_span, blob_tests, is_inside, plain_of, IsInside};
+ghost use Rattle.inc_layout.specs.Told.{GivesFront};
+ghost use Rattle.inc_layout.specs.declared.fault.LayoutFault.TheVariants.{ReadFault as read_fault};
+
+use super::Front;
+use crate::LayoutFault;
+use inc_bytes::Span;
+use inc_entry::{Areas, is_clear};
+use inc_header::{HeaderKind, read_header};
+use inc_md::SigRecord;
+use inc_signature::{MOST_BLOB, SigFault};
+use inc_tree::{BLOCK_SIZE, Geometry};
+
+/// The header of a plain file that isn't too large, from the first bytes of a file.
+#[tactic(auto, unfolding(crate::specs::Fixed::plain_of))]
+pub fn plain_front(b: &[u8]) -> Result<Front, LayoutFault>
+    ensures answer { GivesFront result (plain_of b.now) }
+    ensures judged { result ≢ Err read_fault }
+{
+    let header = read_header(b)?;
+    let HeaderKind::Plain { first } = header.kind else {
+        return Err(LayoutFault::Mapped);
+    };
+    let Ok(tree) = Geometry::of(header.size) else {
+        return Err(LayoutFault::TooLarge);
+    };
+    Ok(Front {
+        header,
+        first,
+        tree,
+    })
+}
+
+/// Whether a span ends inside a file. An empty one does everywhere.
+pub fn is_inside(span: Span, len: u64) -> bool
+    ensures value { result ≡ is_inside len span }
+{
+    span.len == 0 || (span.len <= len && span.at <= len - span.len)
+}
+
+/// Whether the signature blob is short enough to be read.
+#[tactic(auto, unfolding(crate::specs::Fixed::blob_tests))]
+pub fn check_blob(signature: &SigRecord, len: u64) -> Result<(), LayoutFault>
+    ensures value { result ≡ judge (first_failing (blob_tests len signature.now)) tt }
+    ensures judged { result ≢ Err read_fault }
+{
+    if signature.sig_size as usize > MOST_BLOB {
+        return Err(LayoutFault::Signature(SigFault::TooLong));
+    }
+    let blob = Span {
+        at: signature.sig_at,
+        len: signature.sig_size as u64,
+    };
+    if !is_inside(blob, len) {
+        return Err(LayoutFault::SignatureOutside);
+    }
+    Ok(())
+}
+
+/// Whether no byte lies in two of these spans.
+pub fn are_apart(spans: &[Span]) -> bool
+    ensures value { result ≡ are_apart spans.now }
+{
+    let mut rest = spans;
+    while let [span, behind @ ..] = rest {
+        if !is_clear(behind, span.at, span.len) {
+            return false;
+        }
+        rest = behind;
+    }
+    true
+}
+
+/// Whether map and tree have their sizes, and everything its own place. `spans` are those of all areas.
+#[tactic(auto, unfolding(crate::specs::Fixed::area_tests))]
+pub fn check_areas(
+    areas: &Areas,
+    spans: &[Span],
+    count: u32,
+    tree_size: u32,
+) -> Result<(), LayoutFault>
+    requires { spans.now ≡ areas_of (places_of areas.now) }
+    ensures value { result ≡ judge (first_failing (area_tests areas.now.len (places_of areas.now) count tree_size)) tt }
+    ensures judged { result ≢ Err read_fault }
+{
+    let blocks = areas.geometry.hash_blocks() as u64;
+    let entries = areas.geometry.data_blocks() as u64 + blocks;
+    if count as u64 != entries {
+        return Err(LayoutFault::MapCount {
+            wanted: entries,
+            got: count,
+        });
+    }
+    if !is_inside(areas.map_span(), areas.len) {
+        return Err(LayoutFault::MapOutside);
+    }
+    let wanted = BLOCK_SIZE as u64 * blocks;
+    if tree_size as u64 != wanted {
+        return Err(LayoutFault::TreeSize {
+            wanted,
+            got: tree_size,
+        });
+    }
+    if !is_inside(areas.tree_span(), areas.len) {
+        return Err(LayoutFault::TreeOutside);
+    }
+    if !are_apart(spans) {
+        return Err(LayoutFault::Overlap);
+    }
+    Ok(())
+}
