@@ -1,0 +1,4 @@
+pub mod Keyed
+pub mod Polling
+pub mod Record
+pub mod Times

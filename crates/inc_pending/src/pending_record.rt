@@ -1,0 +1,98 @@
+ghost use Rattle.std.specs.Prelude.{◌≡◌, List, IfOk};
+ghost use Rattle.inc_pending.specs.Record.{record_bytes, record_in};
+
+use crate::OutOfMemory;
+use inc_bytes::{Id, get_u32, get_u64, put_u32, put_u64};
+use std::alloc::Global;
+use std::marker::Model;
+
+/// A read that waits, as the public interface tells it: 32 bytes, the file's id, when it was asked in
+/// microseconds, its block's index and its serial.
+#[derive(Clone, Copy, Debug, PartialEq, Eq)]
+pub struct PendingRecord {
+    pub id: Id,
+    pub asked: u64,
+    pub block: u32,
+    pub serial: u32,
+}
+
+impl PendingRecord {
+    pub fn to_bytes(&self) -> [u8; 32]
+        ensures value { result ≡ record_bytes self.now }
+        ensures back { record_in result ≡ self.now }
+    {
+        let mut bytes = [0; 32];
+        let PendingRecord {
+            id,
+            asked,
+            block,
+            serial,
+        } = *self;
+        bytes[..16].copy_from_slice(&id);
+        put_u64(&mut bytes, 16, asked);
+        put_u32(&mut bytes, 24, block);
+        put_u32(&mut bytes, 28, serial);
+        bytes
+    }
+
+    /// Each 32 bytes are a record.
+    pub fn of_bytes(b: &[u8; 32]) -> PendingRecord
+        ensures value { result ≡ record_in b.now }
+        ensures back { record_bytes result ≡ b.now }
+    {
+        let mut id = [0; 16];
+        id.copy_from_slice(&b[..16]);
+        PendingRecord {
+            id,
+            asked: get_u64(b, 16).unwrap(),
+            block: get_u32(b, 24).unwrap(),
+            serial: get_u32(b, 28).unwrap(),
+        }
+    }
+}
+
+/// Pending records that own their memory.
+#[derive(Drop)]
+pub struct RecordList {
+    items: Vec<PendingRecord>,
+}
+
+impl Model for RecordList {
+    ghost use Rattle.std.specs.Prelude.{List};
+    ghost use Rattle.inc_pending.specs.declared.pending_record.PendingRecord.{PendingRecord};
+
+    ghost Value = { List PendingRecord };
+
+    ghost view = { λ r. r.items.items };
+}
+
+impl RecordList {
+    /// A copy of these records.
+    pub fn of(alloc: Global, records: &[PendingRecord]) -> Result<RecordList, OutOfMemory>
+        ensures value { IfOk result (λ copy. copy ≡ records.now) }
+    {
+        Ok(RecordList {
+            items: records.to_vec(alloc)?,
+        })
+    }
+
+    /// The vector's records. It takes no memory.
+    pub fn from_vec(items: Vec<PendingRecord>) -> RecordList
+        ensures value { result ≡ items.items }
+    {
+        RecordList { items }
+    }
+
+    /// Gives the records back as a vector.
+    pub fn into_vec(self) -> Vec<PendingRecord>
+        ensures value { result.items ≡ self }
+    {
+        self.items
+    }
+
+    pub fn as_slice(&self) -> &[PendingRecord]
+        ensures value { result.now ≡ self.now }
+    {
+        self.items.as_slice()
+    }
+}
