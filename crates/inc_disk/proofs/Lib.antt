@@ -1,2 +1,4 @@
+pub mod LogLemmas
 pub mod Moments
+pub mod NamesLemmas
 pub mod States

@@ -1,6 +1,7 @@
--- How the images of a disk go together over a run of calls.
-use Rattle.std.specs.Prelude.{◌≡◌, ◌⊎◌, ◌≤◌, ℕ, suc, List, ◌++◌, length, Result, OnOk, OnErr}
+-- How the images of a disk go together over a run of calls, and those of a shelf's names over the time in which a disk is lent.
+use Rattle.std.specs.Prelude.{◌≡◌, ◌≢◌, ◌⊎◌, ◌-◌, ◌≤◌, ℕ, suc, List, ◌∷◌, ◌++◌, length, Option, Some, Result, OnOk, OnErr}
 use Rattle.inc_disk.specs.Disk.{DiskState, IsImage, IsSound, MayHaveLeft, Now, settled}
+use Rattle.inc_disk.specs.Log.{Log, MayHaveLeftOf, MayHaveLeftFile, entries_of, newest_of}
 
 -- whatever a crash in this state leaves has P
 abbrev pub EachImage : DiskState → (List ℕ → Type 0) → Type 0
@@ -42,3 +43,19 @@ SyncLeavesOne = (bytes image : List ℕ) → IsImage (settled bytes) image → i
 
 abbrev pub SyncLeavesWhatItReads : Type 0
 SyncLeavesWhatItReads = (bytes : List ℕ) → IsSound (settled bytes)
+
+-- A file goes on to these states: those of a disk that is given back, or the one that it is created or put with. The images of the name
+-- since a moment are then those that it had on the shelf since that moment and those of the disk, and no others. The disk's own moments count from the log's end.
+pub record JoinsImages (name : List ℕ) (states : List DiskState) (log : Log) : Type 0 where
+  pub newest : (disk : DiskState) (past : List DiskState) → states ≡ disk ∷ past → newest_of name (entries_of name states ++ log) ≡ Some disk
+  pub each : (moment : ℕ) (image : Option (List ℕ)) → MayHaveLeftOf name moment (entries_of name states ++ log) image
+      → MayHaveLeftOf name moment log image ⊎ MayHaveLeftFile (moment - length log) states image
+  pub shelf : (moment : ℕ) (image : Option (List ℕ)) → MayHaveLeftOf name moment log image → MayHaveLeftOf name moment (entries_of name states ++ log) image
+  pub disk : (moment : ℕ) (image : Option (List ℕ)) → MayHaveLeftFile (moment - length log) states image → MayHaveLeftOf name moment (entries_of name states ++ log) image
+
+-- Every other name keeps its newest state, and its images since each moment up to then.
+pub record KeepsOthers (name : List ℕ) (states : List DiskState) (log : Log) : Type 0 where
+  pub newest : (other : List ℕ) → other ≢ name → newest_of other (entries_of name states ++ log) ≡ newest_of other log
+  pub each : (other : List ℕ) (moment : ℕ) (image : Option (List ℕ)) → other ≢ name → moment ≤ length log
+      → MayHaveLeftOf other moment (entries_of name states ++ log) image → MayHaveLeftOf other moment log image
+  pub kept : (other : List ℕ) (moment : ℕ) (image : Option (List ℕ)) → MayHaveLeftOf other moment log image → MayHaveLeftOf other moment (entries_of name states ++ log) image

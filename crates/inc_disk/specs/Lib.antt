@@ -1,3 +1,4 @@
+pub mod Book
 pub mod Disk
 pub mod Laws
 pub mod Log

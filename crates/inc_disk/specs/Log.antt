@@ -3,7 +3,7 @@ use Rattle.std.specs.Prelude.{◌≡◌, ◌⊎◌, ◌≤◌, ℕ, suc, if◌th
 use Rattle.std.specs.Str.{bytes_eq}
 use Rattle.std.specs.FinMap.{from_entries}
 use Rattle.inc_io.specs.Contents.{Contents}
-use Rattle.inc_disk.specs.Disk.{DiskState, IsImage, settled}
+use Rattle.inc_disk.specs.Disk.{DiskState, IsImage, MayHaveLeft, settled}
 
 -- An entry is a name and a state that its file has come to. The shelf's moment is how many there are.
 abbrev pub Log : Type 0
@@ -28,6 +28,11 @@ abbrev pub MayHaveLeftOf : List ℕ → ℕ → Log → Option (List ℕ) → Ty
 MayHaveLeftOf name moment [] image = (moment ≤ 0) × (image ≡ None)
 MayHaveLeftOf name moment (entry ∷ past) image =
     ((moment ≤ suc (length past)) × IsImageOf (newest_of name (entry ∷ past)) image) ⊎ MayHaveLeftOf name moment past image
+
+-- a crash of a disk in these states, at this moment of the disk or later, might have left this of its file
+abbrev pub MayHaveLeftFile : ℕ → List DiskState → Option (List ℕ) → Type 0
+MayHaveLeftFile moment states None = ⊥
+MayHaveLeftFile moment states (Some bytes) = MayHaveLeft moment states bytes
 
 -- the states of one file, as entries
 abbrev pub entries_of : List ℕ → List DiskState → Log

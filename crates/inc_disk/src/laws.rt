@@ -2,7 +2,8 @@
 ghost use Rattle.std.specs.Prelude.{◌≡◌, ℕ, Bool, IsTrue, List, ◌∷◌, Result};
 ghost use Rattle.inc_io.specs.declared.failed.Failed.{Failed};
 ghost use Rattle.inc_disk.specs.Disk.{DiskState, Writes, Syncs};
-ghost use Rattle.inc_disk.specs.Laws.{EachImage, HoldsSince, GoesOn, LeavesOnly, SplitsAtMoment, SyncLeavesOne, SyncLeavesWhatItReads};
+ghost use Rattle.inc_disk.specs.Log.{Log};
+ghost use Rattle.inc_disk.specs.Laws.{EachImage, HoldsSince, GoesOn, LeavesOnly, JoinsImages, KeepsOthers, SplitsAtMoment, SyncLeavesOne, SyncLeavesWhatItReads};
 
 /// Over each call the images since a moment are those before it and those of now.
 pub fn images_go_on()
@@ -31,4 +32,11 @@ pub fn runs_join()
 pub fn sync_leaves_one_image()
     ensures one { SyncLeavesOne }
     ensures reads { SyncLeavesWhatItReads }
+{}
+
+/// Over a call of a shelf that changes a name, its images are those that it had and those of its disk, and no other name's change.
+#[tactic(auto, using(crate::proofs::LogLemmas::joins_images, crate::proofs::LogLemmas::keeps_others))]
+pub fn a_returned_disk_joins_its_images()
+    ensures joined { (name : List ℕ) (states : List DiskState) (log : Log) → JoinsImages name states log }
+    ensures others { (name : List ℕ) (states : List DiskState) (log : Log) → KeepsOthers name states log }
 {}

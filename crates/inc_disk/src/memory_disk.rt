@@ -55,6 +55,13 @@ impl MemDisk {
         }
     }
 
+    /// All the states that the disk has been in.
+    pub fn into_history(self) -> History
+        ensures value { result ≡ self.history }
+    {
+        self.history
+    }
+
     /// What the disk reads as.
     pub fn bytes(&self) -> &[u8]
         ensures value { reads_of self.now.history ≡ Some result.now }

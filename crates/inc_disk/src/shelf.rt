@@ -4,7 +4,7 @@ ghost use Rattle.inc_io.specs.Causes.{HasCauseAt, Joins};
 ghost use Rattle.inc_io.specs.Names.{without};
 ghost use Rattle.inc_io.specs.Outside.{IsIn, IsOut, LendsName};
 ghost use Rattle.inc_io.specs.declared.failed.LendFault.TheVariants.{Failed as lend_failed};
-ghost use Rattle.inc_disk.specs.Disk.{settled};
+ghost use Rattle.inc_disk.specs.Disk.{Now, settled};
 ghost use Rattle.inc_disk.specs.Log.{Log, Creates, KeepsUnlessLent, contents_of, entries_of, newest_of};
 
 use crate::Disk;
@@ -35,6 +35,8 @@ pub trait Shelf: ReadShelf {
         ensures found { IfSome (log (Self.kept self.old)) (λ entries. IfOk result (λ lent. is_some lent ≡ not (is_some (newest_of name.now entries)))) }
         ensures states { IfSome (log (Self.kept self.old)) (λ entries. IfOk result (λ lent. IfSome lent (λ disk.
             Self.Disk.states (Self.Disk.kept disk) ≡ settled [] ∷ []))) }
+        // The disk is empty also where the shelf doesn't tell its log.
+        ensures empty { IfOk result (λ lent. IfSome lent (λ disk. Now (Self.Disk.states (Self.Disk.kept disk)) (λ state. state ≡ settled []))) }
         ensures created { Creates name.now (log (Self.kept self.old)) (log (Self.kept self.new)) result }
         ensures fresh { IfOk result (λ lent. IfSome lent (λ disk. Self.Disk.faults disk ≡ 0)) }
         ensures lends { LendsName name.now (Self.out self.old) (Self.out self.new) result }

@@ -13,7 +13,7 @@ fn disk_of(alloc: Global, bytes: &[u8]) -> Result<MemDisk, Fail> {
     Ok(MemDisk::new(alloc, Bytes::of(alloc, bytes)?, ROOM, MANY, Vec::new(alloc))?)
 }
 
-fn write(disk: &mut MemDisk, at: u64, piece: &[u8]) -> Result<(), Failed> {
+pub fn write(disk: &mut MemDisk, at: u64, piece: &[u8]) -> Result<(), Failed> {
     if (disk.bytes().len() as u64) < at {
         return Err(Failed);
     }
@@ -34,8 +34,8 @@ fn written_twice(alloc: Global) -> Result<MemDisk, Fail> {
     Ok(disk)
 }
 
-/// Through the bound alone.
-fn append_synced<D: Disk>(disk: &mut D, piece: &[u8]) -> Result<u64, Failed> {
+/// Through the bounds alone, as a thread has it.
+fn append_synced<D: Disk + Send>(disk: &mut D, piece: &[u8]) -> Result<u64, Failed> {
     let len = disk.len()?;
     if len < NEAR {
         if (piece.len() as u64) < NEAR {

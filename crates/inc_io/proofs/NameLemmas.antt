@@ -1,4 +1,8 @@
-use Rattle.std.proofs.Common.{◌≡◌, ℕ, List, Bool, true, false, ◌&&◌, refl}
+use Rattle.std.proofs.Common.{◌≡◌, ℕ, suc, ◌<◌, List, length, drop, get_or, Bool, true, false, ◌&&◌, ◌||◌, refl, sym, ap, ◌∙◌, drop-cons}
+use Rattle.std.proofs.lemmas.List.{get_or_default}
+use Rattle.std.proofs.lemmas.Slice.Eq.{bytes_eq-Decides}
+use Rattle.std.specs.List.{list_any}
+use Rattle.std.specs.Str.{bytes_eq}
 use Rattle.std.specs.Str.{is_utf8, IsUtf8}
 use Rattle.std.proofs.lemmas.Str.{IsUtf8-from_is_utf8, is_utf8-from_IsUtf8}
 use Rattle.inc_io.specs.Names.{is_name}
@@ -21,3 +25,20 @@ fails bytes broken =
 pub no_text_no_name : (bytes : List ℕ) → ¬ (IsUtf8 bytes) → is_name bytes ≡ false
 unfolding is_name
 no_text_no_name bytes broken = rw (fails bytes broken) (false_inside _ _ _)
+
+or_true : (b : Bool) → true ≡ (b || true)
+or_true true = refl
+or_true false = refl
+
+-- a name that stands at this place is among the names from there on
+pub found_here : (name : List ℕ) (names : List (List ℕ)) (at : ℕ) (item : List ℕ) (before all : Bool) → at < length names → item ≡ get_or names at item → bytes_eq name item ≡ true
+    → (before || list_any (bytes_eq name) (drop at names)) ≡ all → true ≡ all
+found_here name names at item before all lt here same e =
+    or_true before
+    ∙ ap (λ (b : Bool). before || b) (ap (λ (b : Bool). b || list_any (bytes_eq name) (drop (suc at) names)) (sym same ∙ ap (bytes_eq name) here) ∙ ap (list_any (bytes_eq name)) (sym (drop-cons names at item lt)))
+    ∙ e
+
+pub same_there : (name : List ℕ) (names : List (List ℕ)) (at : ℕ) (item removed : List ℕ) → at < length names → item ≡ get_or names at item → bytes_eq name item ≡ true
+    → removed ≡ get_or names at removed → removed ≡ name
+same_there name names at item removed lt here same is =
+    is ∙ get_or_default names at removed item lt ∙ sym here ∙ sym ((bytes_eq-Decides name item).0 same)

@@ -2,4 +2,3 @@ pub mod Causes
 pub mod Contents
 pub mod Names
 pub mod Outside
-pub mod Stored

@@ -6,25 +6,31 @@
 
 mod backing;
 mod bytes;
+mod clock;
 mod failed;
-mod files;
 mod memory_file;
-mod memory_shelf;
 mod memory_sink;
+mod memory_source;
 mod name;
 mod schedule;
 mod shelf;
 mod sink;
+mod source;
+mod step_clock;
 
 pub use backing::Backing;
 pub use bytes::Bytes;
+pub use clock::Clock;
 pub use failed::{Failed, LendFault};
 pub use memory_file::MemFile;
-pub use memory_shelf::MemShelf;
 pub use memory_sink::MemSink;
+pub use memory_source::MemSource;
 pub use name::{Name, NameList};
+pub use schedule::Schedule;
 pub use shelf::ReadShelf;
 pub use sink::Sink;
+pub use source::Source;
+pub use step_clock::StepClock;
 
 /// The one answer that no clause ties to a cause: the allocator refused.
 pub type OutOfMemory = std::alloc::AllocError;

@@ -4,8 +4,7 @@ ghost use Rattle.std.specs.Vec.{vec_capacity, vec_len};
 ghost use Rattle.inc_io.specs.Causes.{HasCause};
 ghost use Rattle.inc_io.specs.Outside.{Takes};
 
-use crate::schedule::Schedule;
-use crate::{Failed, OutOfMemory, Sink};
+use crate::{Failed, OutOfMemory, Schedule, Sink};
 use std::alloc::Global;
 
 /// A sink in memory, for tests.

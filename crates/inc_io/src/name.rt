@@ -137,18 +137,22 @@ impl NameList {
         Ok(())
     }
 
-    /// Takes this name out, wherever it stands.
-    pub fn remove(&mut self, name: &Name)
+    /// Takes this name out, wherever it stands, and gives it back where it was there.
+    pub fn remove(&mut self, name: &Name) -> Option<Name>
         ensures value { self.new ≡ without name.now self.old }
+        ensures found { is_some result ≡ list_any (bytes_eq name.now) self.old }
+        ensures same { IfSome result (λ removed. removed ≡ name.now) }
     {
+        let mut removed = None;
         let mut at = 0;
         while at < self.items.len() {
             if is_same(name.as_str(), self.items[at].as_str()) {
-                let _ = self.items.remove(at);
+                removed = Some(self.items.remove(at));
             } else {
                 at += 1;
             }
         }
+        removed
     }
 
     pub fn contains(&self, name: &Name) -> bool

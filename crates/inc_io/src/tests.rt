@@ -1,24 +1,8 @@
-ghost use Rattle.std.specs.Prelude.{◌≡◌, [], IfOk};
-
-use crate::{Backing, Bytes, Failed, LendFault, MemShelf, MemSink, Name, ReadShelf, Sink};
+use crate::{
+    Backing, Bytes, Clock, Failed, MemFile, MemSink, MemSource, Name, Sink, Source, StepClock,
+};
 use std::alloc::Global;
 use std::test::Fail;
-
-const MANY: u32 = 1000;
-
-fn shelf_with(
-    alloc: Global,
-    name: &[u8],
-    bytes: &[u8],
-    calls: u32,
-) -> Result<(MemShelf, Name), Fail>
-    ensures none_out { IfOk result (λ made. made.0.out ≡ []) }
-{
-    let name = Name::of(alloc, name)?.ok_or("a name")?;
-    let mut shelf = MemShelf::new(alloc, calls);
-    shelf.put(name.copy(alloc)?, Bytes::of(alloc, bytes)?)?;
-    Ok((shelf, name))
-}
 
 #[test]
 fn names_are_judged_by_their_bytes(rt: HostRuntime) -> Result<(), Fail> {
@@ -45,13 +29,8 @@ fn names_are_judged_by_their_bytes(rt: HostRuntime) -> Result<(), Fail> {
 }
 
 #[test]
-fn a_file_is_lent_and_read_by_places(rt: HostRuntime) -> Result<(), Fail> {
-    let alloc = rt.alloc();
-    let (mut shelf, name) = shelf_with(alloc, b"one", b"0123456789", MANY)?;
-    let Ok(Some(mut file)) = shelf.open_read(&name) else {
-        return Ok(None::<()>.ok_or("the file is not lent")?);
-    };
-    assert!(rt; shelf.bytes(&name).is_none());
+fn a_file_is_read_by_places(rt: HostRuntime) -> Result<(), Fail> {
+    let mut file = MemFile::new(Bytes::of(rt.alloc(), b"0123456789")?, 4);
     assert_eq!(rt; file.len(), Ok(10));
     let mut room = [0u8; 4];
     assert_eq!(rt; file.read_at(3, &mut room), Ok(4));
@@ -59,50 +38,54 @@ fn a_file_is_lent_and_read_by_places(rt: HostRuntime) -> Result<(), Fail> {
     assert_eq!(rt; file.read_at(8, &mut room), Ok(2));
     assert_eq!(rt; room, *b"8956");
     assert_eq!(rt; file.read_at(11, &mut room), Ok(0));
-    shelf.close_read(&name, file);
-    assert_eq!(rt; shelf.bytes(&name), Some(b"0123456789".as_slice()));
-    Ok(())
-}
-
-#[test]
-fn names_come_in_byte_order(rt: HostRuntime) -> Result<(), Fail> {
-    let alloc = rt.alloc();
-    let mut shelf = MemShelf::new(alloc, MANY);
-    for (name, bytes) in [
-        (b"b".as_slice(), b"1".as_slice()),
-        (b"a".as_slice(), b"2".as_slice()),
-        (b"ab".as_slice(), b"3".as_slice()),
-        (b"b".as_slice(), b"4".as_slice()),
-    ] {
-        let name = Name::of(alloc, name)?.ok_or("a name")?;
-        shelf.put(name, Bytes::of(alloc, bytes)?)?;
-    }
-    let names = shelf.names().ok().ok_or("names")?;
-    assert_eq!(rt; names.as_slice().len(), 3);
-    for (name, (wanted, bytes)) in names.as_slice().iter().zip([
-        (b"a".as_slice(), b"2".as_slice()),
-        (b"ab".as_slice(), b"3".as_slice()),
-        (b"b".as_slice(), b"4".as_slice()),
-    ]) {
-        assert_eq!(rt; name.as_slice(), wanted);
-        assert_eq!(rt; shelf.bytes(name), Some(bytes));
-    }
-    Ok(())
-}
-
-#[test]
-fn planned_faults_come_at_their_calls(rt: HostRuntime) -> Result<(), Fail> {
-    let alloc = rt.alloc();
-    let (mut shelf, name) = shelf_with(alloc, b"one", b"0123456789", 1)?;
-    shelf.fail([0u64].to_vec(alloc)?);
-    assert!(rt; matches!(shelf.names(), Err(LendFault::Failed)));
-    let Ok(Some(mut file)) = shelf.open_read(&name) else {
-        return Ok(None::<()>.ok_or("the file is not lent")?);
-    };
-    assert_eq!(rt; file.len(), Ok(10));
     assert_eq!(rt; file.len(), Err(Failed));
     assert_eq!(rt; file.faults(), 1);
-    shelf.close_read(&name, file);
+    Ok(())
+}
+
+/// Through the bound alone.
+fn read_all<S: Source>(alloc: Global, source: &mut S) -> Result<Vec<u8>, Fail> {
+    let mut all = Vec::new(alloc);
+    let mut room = [0u8; 4];
+    for _ in 0..u64::MAX {
+        let count = source.read(&mut room)?;
+        if count == 0 {
+            break;
+        }
+        all.extend_from_slice(&room[..count])?;
+    }
+    Ok(all)
+}
+
+#[test]
+fn a_source_gives_pieces_up_to_its_cut(rt: HostRuntime) -> Result<(), Fail> {
+    let alloc = rt.alloc();
+    let bytes = Bytes::of(alloc, b"abcdefghij")?;
+    let mut source = MemSource::new(bytes, 3, [1u64].to_vec(alloc)?);
+    let mut room = [0u8; 4];
+    assert_eq!(rt; source.read(&mut []), Ok(0));
+    assert_eq!(rt; source.read(&mut room), Err(Failed));
+    assert_eq!(rt; source.read(&mut room), Ok(3));
+    assert_eq!(rt; room, *b"abc\0");
+    assert_eq!(rt;
+        read_all(alloc, &mut source)?.as_slice(),
+        b"defghij".as_slice()
+    );
+    assert_eq!(rt; source.read(&mut room), Ok(0));
+    Ok(())
+}
+
+/// Through the bounds alone, as threads share it.
+fn read_clock<C: Clock + Sync>(clock: &C) -> u64 {
+    clock.now()
+}
+
+#[test]
+fn a_step_clock_goes_on_and_stops_at_its_end(rt: HostRuntime) -> Result<(), Fail> {
+    let clock = StepClock::new(u64::MAX - 30, 20);
+    assert_eq!(rt; clock.now(), u64::MAX - 30);
+    assert_eq!(rt; read_clock(&clock), u64::MAX - 10);
+    assert_eq!(rt; clock.now(), u64::MAX);
     Ok(())
 }
 

@@ -1,4 +1,7 @@
-use Rattle.std.proofs.Common.{◌≡◌, ◌-◌, ◌≤◌, ◌++◌, length, take, drop}
+use Rattle.std.proofs.Common.{◌≡◌, ◌-◌, ◌≤◌, ◌++◌, ◌||◌, length, take, drop}
+use Rattle.std.specs.Prelude.{is_some, IfSome}
+use Rattle.std.specs.List.{list_any}
+use Rattle.std.specs.Str.{bytes_eq}
 use Rattle.inc_io.specs.Names.{without}
 use Rattle.inc_io.proofs.name.NameList.remove.Given as goal
 
@@ -6,6 +9,8 @@ abbrev pub invariant-loop-at : goal.invariant-loop-at
 invariant-loop-at l = record {
   within : l.at ≤ length l.self-inside.items.items;
   value : take l.at l.self-inside.items.items ++ without l.name (drop l.at l.self-inside.items.items) ≡ without l.name l.fn.self;
+  found : (is_some l.removed || list_any (bytes_eq l.name) (drop l.at l.self-inside.items.items)) ≡ list_any (bytes_eq l.name) l.fn.self;
+  same : IfSome l.removed (λ removed. removed ≡ l.name);
 }
 
 abbrev pub decreases-loop-at : goal.decreases-loop-at
