@@ -72,16 +72,16 @@ follow_places bytes len first places front = whole_chain 1024 bytes len [] first
 
 -- ---- the tests of a record, one by one
 
-record Passes (before : ℕ) (mapped signed : Bool) (len at : ℕ) (head : Head) : Type 0 where
-  few : before < 1024
-  begins : at + 23 ≤ len
-  sized : is_size head.kind head.size ≡ true
-  ends : at + head.size ≤ len
-  one_map : not (mapped && eqb head.kind 1) ≡ true
-  one_signature : not (signed && eqb head.kind 3) ≡ true
-  rises : (eqb head.next 0 || leb (at + head.size) head.next) ≡ true
+pub record Passes (before : ℕ) (mapped signed : Bool) (len at : ℕ) (head : Head) : Type 0 where
+  pub few : before < 1024
+  pub begins : at + 23 ≤ len
+  pub sized : is_size head.kind head.size ≡ true
+  pub ends : at + head.size ≤ len
+  pub one_map : not (mapped && eqb head.kind 1) ≡ true
+  pub one_signature : not (signed && eqb head.kind 3) ≡ true
+  pub rises : (eqb head.next 0 || leb (at + head.size) head.next) ≡ true
 
-parts : (before : ℕ) (mapped signed : Bool) (len at : ℕ) (head : Head) → first_failing (place_tests before len at ++ head_tests mapped signed len at head) ≡ None
+pub parts : (before : ℕ) (mapped signed : Bool) (len at : ℕ) (head : Head) → first_failing (place_tests before len at ++ head_tests mapped signed len at head) ≡ None
     → Passes before mapped signed len at head
 unfolding head_tests
 parts before mapped signed len at head passes =
@@ -102,7 +102,7 @@ parts before mapped signed len at head passes =
       rises = t7.0;
     }
 
-whole : (before : ℕ) (mapped signed : Bool) (len at : ℕ) (head : Head) → Passes before mapped signed len at head
+pub whole : (before : ℕ) (mapped signed : Bool) (len at : ℕ) (head : Head) → Passes before mapped signed len at head
     → first_failing (place_tests before len at ++ head_tests mapped signed len at head) ≡ None
 unfolding head_tests
 whole before mapped signed len at head p =
@@ -131,7 +131,7 @@ abbrev pub SameHeads : List ℕ → List ℕ → List ℕ → Type 0
 SameHeads a b [] = Unit {0}
 SameHeads a b (place ∷ places) = SameBytes a b place 15 × SameHeads a b places
 
-part_same : (a b : List ℕ) (at n : ℕ) → at + n ≤ length a → at + n ≤ length b → SameBytes a b at n → take n (drop at a) ≡ take n (drop at b)
+pub part_same : (a b : List ℕ) (at n : ℕ) → at + n ≤ length a → at + n ≤ length b → SameBytes a b at n → take n (drop at a) ≡ take n (drop at b)
 part_same a b at n fits_a fits_b same =
     let len_a : length (take n (drop at a)) ≡ n = omega (arith, length-take n (drop at a), length-drop at a) in
     let len_b : length (take n (drop at b)) ≡ n = omega (arith, length-take n (drop at b), length-drop at b) in
@@ -140,7 +140,7 @@ part_same a b at n fits_a fits_b same =
     get_or-take n (drop at a) i 0 below ∙ get_or-drop at a i 0 ∙ same i below ∙ sym (get_or-drop at b i 0) ∙ sym (get_or-take n (drop at b) i 0 below))
 
 -- a part of bytes on which they agree
-same_within : (a b : List ℕ) (at n place m : ℕ) → SameBytes a b at n → place + m ≤ n → SameBytes a b (at + place) m
+pub same_within : (a b : List ℕ) (at n place m : ℕ) → SameBytes a b at n → place + m ≤ n → SameBytes a b (at + place) m
 same_within a b at n place m same le j lt =
     let e : at + place + j ≡ at + (place + j) = omega arith in
     ap (slice_index a) e ∙ same (place + j) (omega arith) ∙ sym (ap (slice_index b) e)
@@ -162,7 +162,7 @@ head_same a b at fits_a fits_b same =
     let next = field_same a b 8 (at + 7) (omega arith) (omega arith) (same_within a b at 15 7 8 same (omega arith)) in
     λ i. record { kind = kind i; size = size i; next = next i }
 
-first_same : (a b : List ℕ) (kind : ℕ) (places : List ℕ) → SameHeads a b places → first_of_kind a kind places ≡ first_of_kind b kind places
+pub first_same : (a b : List ℕ) (kind : ℕ) (places : List ℕ) → SameHeads a b places → first_of_kind a kind places ≡ first_of_kind b kind places
 first_same a b kind [] same = refl
 first_same a b kind (place ∷ places) same =
     ap (λ (k : ℕ). cond (eqb k kind) (Some place) (first_of_kind a kind places)) (kind_same a b place same.0)

@@ -3,3 +3,4 @@ pub mod Stepping
 pub mod Chains
 pub mod ChainLaws
 pub mod ChainSaid
+pub mod SameChain

@@ -2,3 +2,4 @@ pub mod Record
 pub mod Chain
 pub mod Outcome
 pub mod Step
+pub mod Staying

@@ -6,10 +6,12 @@
 
 mod fault;
 mod head;
+mod laws;
 mod records;
 mod walking;
 
 pub use fault::ChainFault;
+pub use laws::chain_stays;
 pub use records::{MapRecord, Records, SigRecord, StatusRecord};
 pub use walking::walk;
 
