@@ -94,7 +94,7 @@ spelled_by_fields bytes fits h =
 
 -- ---- what is spelled so is read
 
-header_bytes-length : (h : Header) → length h.id ≡ 16 → length (header_bytes h) ≡ 56
+pub header_bytes-length : (h : Header) → length h.id ≡ 16 → length (header_bytes h) ≡ 56
 unfolding header_bytes le_bytes
 header_bytes-length h e = omega (arith, e)
 

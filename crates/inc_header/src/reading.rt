@@ -11,18 +11,18 @@ use inc_bytes::{get_u16, get_u32, get_u64};
 pub const HEADER_LEN: usize = 56;
 
 /// The letters INCFS and three zeros.
-const MAGIC: u64 = 0x53_4643_4e49;
+pub const MAGIC: u64 = 0x53_4643_4e49;
 
-const VERSION: u64 = 1;
+pub const VERSION: u64 = 1;
 
-const HEADER_SIZE: u16 = 56;
+pub const HEADER_SIZE: u16 = 56;
 
-const BLOCK_SIZE: u16 = 4096;
+pub const BLOCK_SIZE: u16 = 4096;
 
 /// The flags of a file with blocks of its own, and of a part of another file's content.
-const PLAIN: u32 = 0;
+pub const PLAIN: u32 = 0;
 
-const MAPPED: u32 = 2;
+pub const MAPPED: u32 = 2;
 
 fn u16_at(b: &[u8], at: usize) -> u16
     requires place { at + 2 ≤ length b.now }

@@ -94,3 +94,19 @@ fn each_fault_is_the_first_test_that_fails(rt: HostRuntime) {
     many[16] = 57;
     assert_eq!(rt; read_header(&many), Err(HeaderFault::BadVersion));
 }
+
+#[test]
+fn a_header_is_written_as_the_table_says(rt: HostRuntime) {
+    let plain = Header {
+        kind: HeaderKind::Plain { first: 56 },
+        size: 4096,
+        id: ID,
+    };
+    assert_eq!(rt; write_header(&plain), PLAIN);
+    let part = Header {
+        kind: HeaderKind::Mapped { offset: 8192 },
+        size: 5000,
+        id: ID,
+    };
+    assert_eq!(rt; write_header(&part), mapped(8192, 5000));
+}

@@ -1,6 +1,6 @@
 -- A blob that passes the tests is what its root and signing info print, and what they print passes the tests.
-use Rattle.std.proofs.Common.{◌≡◌, ℕ, ◌+◌, ◌-◌, ◌≤◌, true, leb, List, [], ◌++◌, length, take, drop, Option, Some, None, Result, Ok, Err, refl, sym, ap, subst, ◌∙◌, append_assoc, arith}
-use Rattle.std.specs.Prelude.{IfOk, IfErr, IsOk}
+use Rattle.std.proofs.Common.{◌≡◌, ℕ, ◌+◌, ◌-◌, ◌≤◌, true, leb, List, [], ◌∷◌, ◌++◌, length, take, drop, Option, Some, None, Result, Ok, Err, refl, sym, ap, subst, ◌∙◌, append_assoc, arith}
+use Rattle.std.specs.Prelude.{IfOk, IfErr, IsOk, OnOk}
 use Rattle.std.proofs.lemmas.Bool.{leb-true, eqb-true, eq-eqb, le-leb}
 use Rattle.std.proofs.lemmas.List.{length-append, length-take, length-drop, take_at, drop_at, take_all, take-append-drop}
 use Rattle.inc_bytes.specs.Fields.{AreBytes, le_bytes, field}
@@ -251,6 +251,15 @@ is_printed bytes (Ok s) fits e =
     subst (λ (x : SigInfo). printed x.root x.signing ≡ bytes) found.1 (blob_printed bytes fits (blob_holds bytes both.0) (info_holds (info_in bytes) both.1))
 is_printed bytes (Err fault) fits e = tt
 
+-- what is read isn't too long
+pub is_short : (bytes : List ℕ) (r : Result SigInfo SigFault) → Gives r (signature_of bytes) → OnOk r (length bytes ≤ 8096)
+unfolding signature_of signature_tests
+is_short bytes (Ok s) e =
+    let found = judged_ok _ _ s e in
+    let both = passed_both (blob_tests bytes) (info_tests (info_in bytes)) found.0 in
+    (blob_holds bytes both.0).small
+is_short bytes (Err fault) e = tt
+
 gives_again : (r judged read : Result SigInfo SigFault) → Gives r judged → judged ≡ read → Gives r read
 gives_again r judged read g e = subst (λ (x : Result SigInfo SigFault). Gives r x) e g
 
@@ -267,3 +276,43 @@ pub is_first : (bytes : List ℕ) (r : Result SigInfo SigFault) → Gives r (sig
 unfolding signature_of
 is_first bytes (Ok s) g = tt
 is_first bytes (Err fault) g = λ ne. judged_err _ _ fault (first_of bytes fault g ne)
+
+-- ---- the writer's parts
+
+-- the section is appended field by field
+pub info_appended : (old root b1 b2 b3 b4 b5 : List ℕ) → length root ≡ 32 → b1 ≡ old ++ le_bytes 4 1 → b2 ≡ b1 ++ 12 ∷ [] → b3 ≡ b2 ++ le_bytes 4 0 → b4 ≡ b3 ++ le_bytes 4 32 → b5 ≡ b4 ++ root → b5 ≡ old ++ hash_info root
+unfolding hash_info le_bytes
+info_appended old root b1 b2 b3 b4 b5 len e1 e2 e3 e4 e5 = rw (e5, e4, e3, e2, e1, len) (simp append_assoc)
+
+-- and so is the blob
+pub blob_appended : (root signing b0 b1 b2 b3 b4 b5 : List ℕ) → length root ≡ 32 → b0 ≡ [] → b1 ≡ b0 ++ le_bytes 4 2 → b2 ≡ b1 ++ le_bytes 4 45 → b3 ≡ b2 ++ hash_info root → b4 ≡ b3 ++ le_bytes 4 (length signing) → b5 ≡ b4 ++ signing → b5 ≡ printed root signing
+unfolding printed
+blob_appended root signing b0 b1 b2 b3 b4 b5 len e0 e1 e2 e3 e4 e5 = rw (e5, e4, e3, e2, e1, e0, hash_info-length root len) refl
+
+printed-length : (root signing : List ℕ) → length root ≡ 32 → length (printed root signing) ≡ 57 + length signing
+unfolding printed
+printed-length root signing e =
+    let H = hash_info root in
+    let A = le_bytes 4 2 in
+    let B = le_bytes 4 (length H) in
+    let C = le_bytes 4 (length signing) in
+    omega (
+      arith,
+      hash_info-length root e,
+      length-le_bytes 4 2,
+      length-le_bytes 4 (length H),
+      length-le_bytes 4 (length signing),
+      length-append (A ++ B ++ H ++ C) signing,
+      length-append (A ++ B ++ H) C,
+      length-append (A ++ B) H,
+      length-append A B,
+    )
+
+-- what is printed is read
+pub read_again : (s : SigInfo) (blob : List ℕ) → length s.root ≡ 32 → length s.signing ≤ 8039 → blob ≡ printed s.root s.signing → signature_of blob ≡ Ok s
+read_again s blob len short is = ap signature_of is ∙ blob_again s.root s.signing len (omega (arith, printed-length s.root s.signing len, short))
+
+-- what is read is printed as it was
+pub printed_again : (s : SigInfo) (blob bytes : List ℕ) → blob ≡ printed s.root s.signing → AreBytes bytes → signature_of bytes ≡ Ok s → blob ≡ bytes
+printed_again s blob bytes is fits e =
+    is ∙ is_printed bytes (Ok s) fits e

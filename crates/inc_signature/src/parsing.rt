@@ -1,4 +1,4 @@
-ghost use Rattle.std.specs.Prelude.{◌≡◌, ◌≢◌, ℕ, ◌+◌, ◌≤◌, List, length, take, drop, IfOk, IfErr, Ok, Err, Some};
+ghost use Rattle.std.specs.Prelude.{◌≡◌, ◌≢◌, ℕ, ◌+◌, ◌≤◌, List, length, take, drop, IfOk, IfErr, OnOk, Ok, Err, Some};
 ghost use Rattle.inc_bytes.specs.Fields.{field};
 ghost use Rattle.inc_bytes.specs.Tests.{first_failing, judge};
 ghost use Rattle.inc_signature.specs.Signature.{printed, blob_tests, info_tests, signature_tests, info_end, root_in, signature_of, Gives};
@@ -11,13 +11,14 @@ use std::alloc::Global;
 /// The most bytes that a signature blob may have.
 pub const MOST_BLOB: usize = 8096;
 
-const VERSION: u32 = 2;
+pub const VERSION: u32 = 2;
 
-const SHA256: u32 = 1;
+pub const SHA256: u32 = 1;
+
 /// The logarithm to base 2 of the block size.
-const LOG_BLOCK: u8 = 12;
+pub const LOG_BLOCK: u8 = 12;
 
-const ROOT_SIZE: u32 = 32;
+pub const ROOT_SIZE: u32 = 32;
 
 fn u32_at(b: &[u8], at: usize) -> u32
     requires place { at + 4 ≤ length b.now }
@@ -115,6 +116,8 @@ pub fn parse(alloc: Global, b: &[u8]) -> Result<SigInfo, SigFault>
     ensures value { Gives result (signature_of b.now) }
     // What is read prints the blob, each byte of it.
     ensures printed { IfOk result (λ s. printed s.root s.signing ≡ b.now) }
+    // What is read has at most 8096 bytes.
+    ensures short { OnOk result (length b.now ≤ 8096) }
     // What prints the blob is read, unless memory runs out.
     ensures accepted { (root signing : List ℕ) → length root ≡ 32 → printed root signing ≡ b.now → length b.now ≤ 8096 → Gives result (Ok (record { root = root; signing = signing })) }
     // Else the first test that fails gives the fault.

@@ -1,5 +1,6 @@
 use super::*;
 use inc_bytes::put_u32;
+use inc_io::Bytes;
 use std::alloc::Global;
 use std::test::*;
 
@@ -186,5 +187,26 @@ fn a_blob_has_at_most_8096_bytes(rt: HostRuntime) -> Result<(), Fail> {
     assert_eq!(rt; s.signing.len(), 8039);
     blob.push(7)?;
     assert_eq!(rt; parse(rt.alloc(), &blob).err(), Some(SigFault::TooLong));
+    Ok(())
+}
+
+#[test]
+fn what_is_printed_has_57_bytes_and_the_signing_info(rt: HostRuntime) -> Result<(), Fail> {
+    let empty = SigInfo {
+        root: root(),
+        signing: Bytes::of(rt.alloc(), &[])?,
+    };
+    assert_eq!(rt;
+        print(rt.alloc(), &empty)?.as_slice(),
+        blob_of_zeros().as_slice()
+    );
+    let signed = SigInfo {
+        root: root(),
+        signing: Bytes::of(rt.alloc(), &[9, 0, 255])?,
+    };
+    let mut wanted = blob_of_zeros().to_vec(rt.alloc())?;
+    wanted.truncate(53);
+    wanted.extend_from_slice(&[3, 0, 0, 0, 9, 0, 255])?;
+    assert_eq!(rt; print(rt.alloc(), &signed)?.as_slice(), wanted.as_slice());
     Ok(())
 }
