@@ -35,7 +35,7 @@ unfolding static_reading
 no_place None opened index error e = tt
 no_place (Some bytes) opened index error e = gives_error error _ (ap (with_place bytes opened index) (sym e))
 
-not_there : (bytes : List ℕ) (opened : Opened) (index place : ℕ) (error : StaticError) (missing : Option ℕ) → Err error ≡ missing_error opened index missing
+pub not_there : (bytes : List ℕ) (opened : Opened) (index place : ℕ) (error : StaticError) (missing : Option ℕ) → Err error ≡ missing_error opened index missing
     → with_missing bytes opened index place missing ≡ Err error
 not_there bytes opened index place error None e = absurd cc
 not_there bytes opened index place error (Some level) e =
@@ -58,18 +58,18 @@ pub record HasRead (bytes : List ℕ) (opened : Opened) (index : ℕ) (block : L
   pub content : content_at (size_in opened) index block ≡ content_from bytes opened.areas index place
   pub path_is : path ≡ path_in bytes opened.areas index
 
-all_present : (opened : Opened) (index : ℕ) (missing : Option ℕ) → Ok tt ≡ missing_error opened index missing → missing ≡ None
+pub all_present : (opened : Opened) (index : ℕ) (missing : Option ℕ) → Ok tt ≡ missing_error opened index missing → missing ≡ None
 all_present opened index None e = refl
 all_present opened index (Some level) e = absurd cc
 
 -- only an open entry has a place
-place_open : (found : Class) (place : ℕ) → place_in_class found ≡ Ok place → (size : ℕ) × (found ≡ class.OpenAt place size)
+pub place_open : (found : Class) (place : ℕ) → place_in_class found ≡ Ok place → (size : ℕ) × (found ≡ class.OpenAt place size)
 place_open (class.OpenAt at size) place e = (size, (let same : at ≡ place = cc in ap (λ (p : ℕ). class.OpenAt p size) same))
 place_open class.Damaged place e = absurd cc
 place_open class.Compressed place e = absurd cc
 place_open class.Closed place e = absurd cc
 
-here_place : (opened : Opened) (index place : ℕ) → index < data_blocks (size_in opened) → block_place opened index ≡ Ok place → place_in_class (class_in opened index) ≡ Ok place
+pub here_place : (opened : Opened) (index place : ℕ) → index < data_blocks (size_in opened) → block_place opened index ≡ Ok place → place_in_class (class_in opened index) ≡ Ok place
 unfolding block_place
 here_place opened index place lt e = rw (lt_true index (data_blocks (size_in opened)) lt) at e
 
@@ -80,7 +80,7 @@ place_inside bytes opened index place is lt e =
     let found = place_open (class_in opened index) place (here_place opened index place lt e) in
     open_inside (places_of opened.areas) bytes index place found.0 (sym (is.each_class index (omega arith)) ∙ found.1)
 
-tree_there : (bytes : List ℕ) (opened : Opened) → IsBackingFile bytes opened → 0 < hash_blocks (size_in opened) → opened.areas.hash_at + 4096 * hash_blocks (size_in opened) ≤ length bytes
+pub tree_there : (bytes : List ℕ) (opened : Opened) → IsBackingFile bytes opened → 0 < hash_blocks (size_in opened) → opened.areas.hash_at + 4096 * hash_blocks (size_in opened) ≤ length bytes
 tree_there bytes opened is some = is.fixed.tree_inside (omega arith)
 
 pub has_read : (told : Option (List ℕ)) (opened : Opened) (index place : ℕ) (block : List ℕ) (path : List (List ℕ)) → IfSome told (λ bytes. IsBackingFile bytes opened)

@@ -1,8 +1,13 @@
 pub mod Backing
+pub mod Checking
 pub mod Faults
 pub mod Fixed
+pub mod Fresh
+pub mod Keeps
 pub mod Listed
 pub mod Opening
 pub mod Parts
+pub mod Preserves
+pub mod SameFixed
 pub mod StaticRead
 pub mod Told

@@ -7,8 +7,8 @@ use Rattle.inc_entry.specs.declared.classes.Class.{Class}
 use Rattle.inc_entry.specs.declared.classes.Class.TheVariants.{OpenAt, Damaged}
 use Rattle.inc_layout.specs.Backing.{IsBackingFile, class_at, first_past, is_past, opened_of, stored_digest}
 use Rattle.inc_layout.specs.Faults.{GivesFault}
-use Rattle.inc_layout.specs.Fixed.{AreApart, IsInside}
-use Rattle.inc_layout.specs.Listed.{first_below, listed}
+use Rattle.inc_layout.specs.Fixed.{AreApart, Fixed, IsFixed, IsInside}
+use Rattle.inc_layout.specs.Listed.{IsFirst, first_below, listed}
 use Rattle.inc_layout.specs.declared.fault.LayoutFault.{LayoutFault}
 use Rattle.inc_layout.specs.declared.fault.LayoutFault.TheVariants.{PlacePastEnd, ReadFault, OutOfMemory}
 use Rattle.inc_layout.specs.declared.fixed.part.FixedPart.{FixedPart}
@@ -48,6 +48,19 @@ pub record IsSound (opened : Opened) : Type 0 where
 abbrev pub GivesOpened : Result Opened LayoutFault → Result Opened LayoutFault → Type 0
 GivesOpened (Ok opened) wanted = wanted ≡ Ok opened
 GivesOpened (Err fault) wanted = GivesFault fault wanted
+
+-- a backing file is taken, but for a fault of the device or of memory
+abbrev pub Accepts : Result Opened LayoutFault → Opened → Type 0
+Accepts (Ok opened) wanted = opened ≡ wanted
+Accepts (Err ReadFault) wanted = Unit {0}
+Accepts (Err OutOfMemory) wanted = Unit {0}
+Accepts (Err fault) wanted = ⊥
+
+-- the fixed part stands, and this is the least index of an entry that names a block past the end
+pub record IsLeastPast (bytes : List ℕ) (i : ℕ) : Type 0 where
+  pub fixed : Fixed
+  pub stands : IsFixed bytes fixed
+  pub least : IsFirst (entries fixed.places) (is_past fixed.places bytes) i
 
 -- each class has its digest or none
 pub record AreDigests (classes : List Class) (digests : List (Option (List ℕ))) : Type 0 where

@@ -6,8 +6,12 @@
 #![tactic(auto)]
 
 mod block_map;
+mod checking;
 mod fault;
 mod fixed;
+mod fresh;
+mod laws;
+mod mounted;
 mod opened;
 mod opening;
 mod room;
@@ -15,10 +19,17 @@ mod static_error;
 mod static_read;
 mod stored;
 
+pub use checking::{KeptPath, check_opened};
 pub use fault::LayoutFault;
+pub use fresh::{FreshFault, fresh_image};
+pub use laws::fixed_part_stays;
+pub use mounted::Mounted;
 pub use opened::{ClassList, DigestList, Opened};
 pub use opening::open_layout;
 pub use static_error::StaticError;
 pub use static_read::read_opened;
 
 type OutOfMemory = std::alloc::AllocError;
+
+#[cfg(test)]
+mod tests;

@@ -3,8 +3,9 @@ ghost use Rattle.inc_io.specs.Causes.{HasCauseAt};
 ghost use Rattle.inc_entry.specs.Entry.{areas_of, entries, places_of};
 ghost use Rattle.inc_layout.specs.Backing.{IsBackingFile, is_past, opened_of};
 ghost use Rattle.inc_layout.specs.Fixed.{AreApart};
-ghost use Rattle.inc_layout.specs.Opening.{GivesOpened, IsSound, opened_with};
+ghost use Rattle.inc_layout.specs.Opening.{Accepts, GivesOpened, IsLeastPast, IsSound, opened_with};
 ghost use Rattle.inc_layout.specs.declared.fault.LayoutFault.TheVariants.{ReadFault as read_fault};
+ghost use Rattle.inc_layout.specs.declared.opened.Opened.{Opened};
 
 use crate::block_map::read_classes;
 use crate::fixed::{FixedPart, open_fixed};
@@ -23,6 +24,10 @@ pub fn open_layout<B: Backing>(alloc: Global, file: &mut B) -> Result<Opened, La
     ensures answer { IfSome (B.reads (B.kept file.old)) (λ bytes. GivesOpened result (opened_of bytes)) }
     // In words it is a backing file, and this is what it tells.
     ensures stands { IfSome (B.reads (B.kept file.old)) (λ bytes. IfOk result (λ opened. IsBackingFile bytes opened)) }
+    // Each backing file is taken.
+    ensures accepted { IfSome (B.reads (B.kept file.old)) (λ bytes. (wanted : Opened) → IsBackingFile bytes wanted → Accepts result wanted) }
+    // Of the entries that name a block past the end the fault tells the least.
+    ensures least { IfSome (B.reads (B.kept file.old)) (λ bytes. (i : ℕ) → result ≡ Err (LayoutFault.PlacePastEnd i) → IsLeastPast bytes i) }
     // No entry would be open in a longer file.
     ensures none_past { IfSome (B.reads (B.kept file.old)) (λ bytes. IfOk result (λ opened. (i : ℕ) → i < entries (places_of opened.areas) →
         is_past (places_of opened.areas) bytes i ≡ false)) }

@@ -39,7 +39,7 @@ pub fn read_opened<B: Backing>(
 
 /// Where a data block is stored, if it is.
 #[tactic(auto, unfolding(crate::specs::StaticRead::block_place))]
-fn block_place(opened: &Opened, index: u32) -> Result<u64, StaticError>
+pub fn block_place(opened: &Opened, index: u32) -> Result<u64, StaticError>
     requires sound { IsSound opened.now }
     ensures value { result ≡ block_place opened.now index }
     ensures here { OnOk result (index < data_blocks opened.now.areas.geometry) }
@@ -57,7 +57,7 @@ fn block_place(opened: &Opened, index: u32) -> Result<u64, StaticError>
 }
 
 /// Looks for the lowest hash block on a path that hasn't arrived.
-fn check_path_there(opened: &Opened, index: u32) -> Result<(), StaticError>
+pub fn check_path_there(opened: &Opened, index: u32) -> Result<(), StaticError>
     requires sound { IsSound opened.now }
     requires here { index < data_blocks opened.now.areas.geometry }
     ensures value { result ≡ missing_error opened.now index (first_missing opened.now index) }
@@ -88,7 +88,7 @@ fn is_there(opened: &Opened, hash: u32) -> bool
 }
 
 /// Reads the first bytes of a block from its place. Zeros stand after them.
-fn read_block<B: Backing>(
+pub fn read_block<B: Backing>(
     alloc: Global,
     file: &mut B,
     at: u64,

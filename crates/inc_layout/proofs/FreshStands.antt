@@ -1,0 +1,115 @@
+-- Where the pieces of a fresh file stand in it, and what its fields then are.
+use Rattle.std.proofs.Common.{◌≡◌, ℕ, ◌+◌, ◌-◌, ◌*◌, ◌<◌, ◌≤◌, List, [], ◌++◌, length, take, drop, get_or, refl, sym, ap, ◌∙◌, append_assoc, arith}
+use Rattle.std.proofs.lemmas.List.{append-nil, length-append, length-replicate, get_or-drop, get_or-take, drop-append-le, drop-drop, drop_at, length-drop, take-append-le, take_all}
+use Rattle.inc_bytes.specs.Fields.{le_number, field}
+use Rattle.inc_md.specs.Record.{head_of}
+use Rattle.inc_header.specs.Header.{header_bytes}
+use Rattle.inc_header.proofs.Spelling.{header_bytes-length}
+use Rattle.inc_layout.specs.Fresh.{entry_count, fresh_header, fresh_length, fresh_of, gap, map_place, map_record, signature_record, status_record, tree_bytes, tree_place, zeros}
+use Rattle.inc_layout.specs.Parts.{part}
+use Rattle.inc_layout.proofs.FreshPieces.{all_zeros, front-length, map_record-length, signature_record-length}
+
+-- ---- a piece in a list
+
+pub record StandsAt (piece bytes : List ℕ) (at : ℕ) : Type 0 where
+  pub front : List ℕ
+  pub back : List ℕ
+  pub is : bytes ≡ front ++ (piece ++ back)
+  pub len : length front ≡ at
+
+last_piece : (front piece : List ℕ) (at : ℕ) → length front ≡ at → StandsAt piece (front ++ piece) at
+last_piece front piece at len = record { front = front; back = []; is = ap (λ (x : List ℕ). front ++ x) (sym (append-nil piece)); len = len }
+
+with_more : (piece bytes more : List ℕ) (at : ℕ) → StandsAt piece bytes at → StandsAt piece (bytes ++ more) at
+with_more piece bytes more at s = record {
+  front = s.front;
+  back = s.back ++ more;
+  is = ap (λ (x : List ℕ). x ++ more) s.is ∙ append_assoc s.front (piece ++ s.back) more ∙ ap (λ (x : List ℕ). s.front ++ x) (append_assoc piece s.back more);
+  len = s.len;
+}
+
+-- a part of the piece
+pub part_there : (piece bytes : List ℕ) (at k n : ℕ) → StandsAt piece bytes at → k + n ≤ length piece → part n (at + k) bytes ≡ part n k piece
+part_there piece bytes at k n s le =
+    let rest : length (drop k piece) ≡ length piece - k = length-drop k piece in
+    let begins : k ≤ length piece = omega arith in
+    let within : n ≤ length (drop k piece) = omega (arith, rest) in
+    ap (take n) (
+    sym (drop-drop k at bytes)
+    ∙ ap (λ (x : List ℕ). drop k (drop at x)) s.is
+    ∙ ap (drop k) (drop_at s.front (piece ++ s.back) at s.len)
+    ∙ drop-append-le k piece s.back begins)
+    ∙ take-append-le n (drop k piece) s.back within
+
+pub piece_there : (piece bytes : List ℕ) (at : ℕ) → StandsAt piece bytes at → part (length piece) at bytes ≡ piece
+piece_there piece bytes at s =
+    let e : at + 0 ≡ at = omega arith in
+    ap (λ (k : ℕ). part (length piece) k bytes) (sym e) ∙ part_there piece bytes at 0 (length piece) s (omega arith) ∙ take_all (length piece) piece (omega arith)
+
+pub field_there : (piece bytes : List ℕ) (at k n : ℕ) → StandsAt piece bytes at → k + n ≤ length piece → field n (at + k) bytes ≡ field n k piece
+field_there piece bytes at k n s le = ap le_number (part_there piece bytes at k n s le)
+
+pub byte_there : (piece bytes : List ℕ) (at k : ℕ) → StandsAt piece bytes at → k < length piece → get_or bytes (at + k) 0 ≡ get_or piece k 0
+byte_there piece bytes at k s lt =
+    let whole = piece_there piece bytes at s in
+    sym (get_or-drop at bytes k 0)
+    ∙ sym (get_or-take (length piece) (drop at bytes) k 0 lt)
+    ∙ ap (λ (x : List ℕ). get_or x k 0) whole
+
+pub head_there : (piece bytes : List ℕ) (at : ℕ) → StandsAt piece bytes at → 15 ≤ length piece → head_of bytes at ≡ head_of piece 0
+unfolding head_of
+head_there piece bytes at s le =
+    let e : at ≡ at + 0 = omega arith in
+    let kind = ap (λ (n : ℕ). get_or bytes n 0) e ∙ byte_there piece bytes at 0 s (omega arith) in
+    let size = field_there piece bytes at 1 2 s (omega arith) in
+    let next = field_there piece bytes at 7 8 s (omega arith) in
+    λ i. record { kind = kind i; size = size i; next = next i }
+
+-- ---- the pieces of a fresh file
+
+pub record Pieces (size : ℕ) (id blob bytes : List ℕ) : Type 0 where
+  pub header : StandsAt (header_bytes (fresh_header size id)) bytes 0
+  pub map_there : StandsAt (map_record (map_place (length blob)) (entry_count size)) bytes 56
+  pub signature_there : StandsAt (signature_record (length blob) (tree_bytes size) (tree_place size (length blob))) bytes 91
+  pub status_there : StandsAt status_record bytes 138
+  pub blob_there : StandsAt blob bytes 193
+  pub entries_there : StandsAt (zeros (10 * entry_count size)) bytes (map_place (length blob))
+  pub whole : length bytes ≡ fresh_length size (length blob)
+
+pub pieces_of : (size : ℕ) (id blob : List ℕ) → length id ≡ 16 → Pieces size id blob (fresh_of size id blob)
+unfolding fresh_of
+pieces_of size id blob id-len =
+    let H = header_bytes (fresh_header size id) in
+    let M = map_record (map_place (length blob)) (entry_count size) in
+    let S = signature_record (length blob) (tree_bytes size) (tree_place size (length blob)) in
+    let T = status_record in
+    let E = zeros (10 * entry_count size) in
+    let G = zeros (gap size (length blob)) in
+    let R = zeros (tree_bytes size) in
+    let H-len : length H ≡ 56 = header_bytes-length (fresh_header size id) id-len in
+    let M-len : length M ≡ 35 = map_record-length (map_place (length blob)) (entry_count size) in
+    let S-len : length S ≡ 47 = signature_record-length (length blob) (tree_bytes size) (tree_place size (length blob)) in
+    let HM-len : length (H ++ M) ≡ 91 = omega (arith, H-len, M-len, length-append H M) in
+    let HMS-len : length (H ++ M ++ S) ≡ 138 = omega (arith, HM-len, S-len, length-append (H ++ M) S) in
+    let front-len : length (H ++ M ++ S ++ T) ≡ 193 = front-length size id (length blob) id-len in
+    let B-len : length (H ++ M ++ S ++ T ++ blob) ≡ map_place (length blob) = omega (arith, front-len, length-append (H ++ M ++ S ++ T) blob) in
+    let more = λ (piece bytes : List ℕ) (at : ℕ) (s : StandsAt piece bytes at). with_more piece (bytes ++ E ++ G) R at (with_more piece (bytes ++ E) G at (with_more piece bytes E at s)) in
+    record {
+      header = more H (H ++ M ++ S ++ T ++ blob) 0 (with_more H (H ++ M ++ S ++ T) blob 0 (with_more H (H ++ M ++ S) T 0 (with_more H (H ++ M) S 0 (with_more H H M 0 (last_piece [] H 0 refl)))));
+      map_there = more M (H ++ M ++ S ++ T ++ blob) 56 (with_more M (H ++ M ++ S ++ T) blob 56 (with_more M (H ++ M ++ S) T 56 (with_more M (H ++ M) S 56 (last_piece H M 56 H-len))));
+      signature_there = more S (H ++ M ++ S ++ T ++ blob) 91 (with_more S (H ++ M ++ S ++ T) blob 91 (with_more S (H ++ M ++ S) T 91 (last_piece (H ++ M) S 91 HM-len)));
+      status_there = more T (H ++ M ++ S ++ T ++ blob) 138 (with_more T (H ++ M ++ S ++ T) blob 138 (last_piece (H ++ M ++ S) T 138 HMS-len));
+      blob_there = more blob (H ++ M ++ S ++ T ++ blob) 193 (last_piece (H ++ M ++ S ++ T) blob 193 front-len);
+      entries_there = with_more E (H ++ M ++ S ++ T ++ blob ++ E ++ G) R (map_place (length blob)) (with_more E (H ++ M ++ S ++ T ++ blob ++ E) G (map_place (length blob)) (last_piece (H ++ M ++ S ++ T ++ blob) E (map_place (length blob)) B-len));
+      whole = omega (
+        arith,
+        B-len,
+        all_zeros size (length blob),
+        length-append (H ++ M ++ S ++ T ++ blob ++ E ++ G) R,
+        length-append (H ++ M ++ S ++ T ++ blob ++ E) G,
+        length-append (H ++ M ++ S ++ T ++ blob) E,
+        length-replicate {A = ℕ} (10 * entry_count size) 0,
+        length-replicate {A = ℕ} (gap size (length blob)) 0,
+        length-replicate {A = ℕ} (tree_bytes size) 0,
+      );
+    }

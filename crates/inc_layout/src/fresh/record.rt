@@ -1,0 +1,95 @@
+ghost use Rattle.std.specs.Prelude.{◌≡◌, ◌++◌, OnOk};
+ghost use Rattle.inc_bytes.specs.Fields.{le_bytes};
+ghost use Rattle.inc_layout.specs.Fresh.{map_record, record_head, signature_record, status_record};
+
+use crate::OutOfMemory;
+
+/// The places of a fresh file's records, and of what comes behind them.
+pub const FIRST_RECORD: u64 = 56;
+
+const SIGNATURE_RECORD: u64 = 91;
+
+const STATUS_RECORD: u64 = 138;
+
+pub const BLOB: u64 = 193;
+
+/// The types and sizes of the records.
+const MAP: u8 = 1;
+
+const MAP_SIZE: u16 = 35;
+
+const SIGNATURE: u8 = 3;
+
+const SIGNATURE_SIZE: u16 = 47;
+
+const STATUS: u8 = 4;
+
+const STATUS_SIZE: u16 = 55;
+
+/// Appends a number of two bytes.
+#[tactic(auto, using(inc_bytes::proofs::Numbers::le_bytes_2))]
+fn push_u16(image: &mut Vec<u8>, n: u16) -> Result<(), OutOfMemory>
+    ensures value { OnOk result (image.new.items ≡ image.old.items ++ le_bytes 2 n) }
+{
+    Ok(image.extend_from_slice(&n.to_le_bytes())?)
+}
+
+/// Appends a number of four bytes.
+#[tactic(auto, using(inc_bytes::proofs::Numbers::le_bytes_4))]
+fn push_u32(image: &mut Vec<u8>, n: u32) -> Result<(), OutOfMemory>
+    ensures value { OnOk result (image.new.items ≡ image.old.items ++ le_bytes 4 n) }
+{
+    Ok(image.extend_from_slice(&n.to_le_bytes())?)
+}
+
+/// Appends a number of eight bytes.
+#[tactic(auto, using(inc_bytes::proofs::Numbers::le_bytes_8))]
+fn push_u64(image: &mut Vec<u8>, n: u64) -> Result<(), OutOfMemory>
+    ensures value { OnOk result (image.new.items ≡ image.old.items ++ le_bytes 8 n) }
+{
+    Ok(image.extend_from_slice(&n.to_le_bytes())?)
+}
+
+/// What every record begins with. The fields that aren't looked at are zeros.
+fn push_head(image: &mut Vec<u8>, kind: u8, size: u16, next: u64) -> Result<(), OutOfMemory>
+    ensures value { OnOk result (image.new.items ≡ image.old.items ++ record_head kind size next) }
+{
+    image.push(kind)?;
+    push_u16(image, size)?;
+    push_u32(image, 0)?;
+    push_u64(image, next)?;
+    Ok(push_u64(image, 0)?)
+}
+
+/// Appends the block map record.
+pub fn push_map(image: &mut Vec<u8>, base: u64, count: u32) -> Result<(), OutOfMemory>
+    ensures value { OnOk result (image.new.items ≡ image.old.items ++ map_record base count) }
+{
+    push_head(image, MAP, MAP_SIZE, SIGNATURE_RECORD)?;
+    push_u64(image, base)?;
+    Ok(push_u32(image, count)?)
+}
+
+/// Appends the signature record.
+pub fn push_signature(
+    image: &mut Vec<u8>,
+    blob_size: u32,
+    tree_size: u32,
+    tree_at: u64,
+) -> Result<(), OutOfMemory>
+    ensures value { OnOk result (image.new.items ≡ image.old.items ++ signature_record blob_size tree_size tree_at) }
+{
+    push_head(image, SIGNATURE, SIGNATURE_SIZE, STATUS_RECORD)?;
+    push_u32(image, blob_size)?;
+    push_u64(image, BLOB)?;
+    push_u32(image, tree_size)?;
+    Ok(push_u64(image, tree_at)?)
+}
+
+/// Appends the status record, the chain's last.
+pub fn push_status(image: &mut Vec<u8>) -> Result<(), OutOfMemory>
+    ensures value { OnOk result (image.new.items ≡ image.old.items ++ status_record) }
+{
+    push_head(image, STATUS, STATUS_SIZE, 0)?;
+    Ok(image.extend_from_slice(&[0; 32])?)
+}
