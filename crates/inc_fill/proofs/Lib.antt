@@ -1,0 +1,12 @@
+pub mod Areas
+pub mod Chained
+pub mod Classes
+pub mod Counts
+pub mod Entries
+pub mod Going
+pub mod Images
+pub mod Mounted
+pub mod Settling
+pub mod Spares
+pub mod Stepping
+pub mod Writes
