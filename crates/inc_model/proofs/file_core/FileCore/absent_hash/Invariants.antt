@@ -1,0 +1,7 @@
+-- all lower levels are there
+use Rattle.std.specs.Prelude.{◌≡◌, ◌-◌}
+use Rattle.inc_model.specs.Polling.{absent_hash, absent_from, levels_over}
+use Rattle.inc_model.proofs.file_core.FileCore.absent_hash.Given as goal
+
+abbrev pub invariant-loop-level : goal.invariant-loop-level
+invariant-loop-level l = absent_hash l.self.n l.self.map l.block ≡ absent_from l.self.n l.self.map l.block (levels_over l.self.n - l.level) l.level

@@ -1,0 +1,6 @@
+-- the keys before the place are lower
+use Rattle.inc_model.proofs.Finding.{AllBelow}
+use Rattle.inc_model.proofs.keyed.place_of.Given as goal
+
+abbrev pub invariant-loop-i : goal.invariant-loop-i
+invariant-loop-i T l = AllBelow l.rows l.i l.key

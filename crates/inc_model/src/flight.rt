@@ -1,0 +1,114 @@
+// The indices that windows are filling, by rising index.
+ghost use Rattle.std.specs.Prelude.{◌≡◌, ◌+◌, ◌<◌, ◌≤◌, not, map, filter, length, vec_len, vec_capacity};
+ghost use Rattle.inc_model.specs.State.{row_of, fly, land};
+ghost use Rattle.inc_model.specs.Stages.{is_gated, settled_row, settled, acknowledge};
+ghost use Rattle.inc_model.specs.Places.{IsFlightSlot, staged};
+
+use crate::claims::is_same_window;
+use crate::indices::add_in_room;
+use crate::{FlightRow, Stage, Window};
+
+/// The row of an index.
+pub fn find_row(flight: &[FlightRow], index: u32) -> Option<FlightRow>
+    ensures value { result ≡ row_of index flight.now }
+{
+    for row in flight {
+        if row.index == index {
+            return Some(*row);
+        }
+    }
+    None
+}
+
+/// The place that a row of this index would have.
+fn slot_of(flight: &[FlightRow], row: FlightRow) -> usize
+    ensures slot { IsFlightSlot flight.now row result }
+{
+    for (i, other) in flight.iter().enumerate() {
+        if row.index < other.index {
+            return i;
+        }
+    }
+    flight.len()
+}
+
+/// Adds a row. There is room for one more, so it takes no memory.
+pub fn fly_in_room(flight: &mut Vec<FlightRow>, row: FlightRow)
+    requires room { vec_len flight.old < vec_capacity flight.old }
+    ensures rows { flight.new.items ≡ fly row flight.old.items }
+{
+    let at = slot_of(flight.as_slice(), row);
+    flight.insert(at, row).unwrap();
+}
+
+fn stage_row(row: &mut FlightRow, index: u32, stage: Stage)
+    ensures row { row.new ≡ staged stage index row.old }
+{
+    if row.index == index {
+        row.stage = stage;
+    }
+}
+
+/// Brings an index to a stage.
+pub fn stage_to(flight: &mut Vec<FlightRow>, index: u32, stage: Stage)
+    ensures rows { flight.new.items ≡ map (staged stage index) flight.old.items }
+{
+    for row in flight.iter_mut() {
+        stage_row(row, index, stage);
+    }
+}
+
+/// Takes a window's rows away.
+pub fn land_window(flight: &mut Vec<FlightRow>, window: Window)
+    ensures rows { flight.new.items ≡ land window flight.old.items }
+{
+    flight.retain(|row| !is_same_window(window, row.window));
+}
+
+fn is_row_gated(row: &FlightRow) -> bool
+    ensures value { result ≡ is_gated row.now.stage }
+{
+    matches!(row.stage, Stage::Gated)
+}
+
+fn settle_row(row: &mut FlightRow)
+    ensures row { row.new ≡ settled_row row.old }
+{
+    if matches!(row.stage, Stage::Placed) {
+        row.stage = Stage::Settled;
+    }
+}
+
+fn settle_each(flight: &mut Vec<FlightRow>)
+    ensures rows { flight.new.items ≡ map settled_row flight.old.items }
+{
+    for row in flight.iter_mut() {
+        settle_row(row);
+    }
+}
+
+fn land_gated(flight: &mut Vec<FlightRow>)
+    ensures rows { flight.new.items ≡ filter (λ row. not (is_gated row.stage)) flight.old.items }
+{
+    flight.retain(|row| !is_row_gated(row));
+}
+
+/// After a sync what is gated leaves, and what is placed is settled.
+pub fn settle_rows(flight: &mut Vec<FlightRow>)
+    ensures rows { flight.new.items ≡ settled flight.old.items }
+{
+    land_gated(flight);
+    settle_each(flight);
+}
+
+/// Acknowledges what is gated. There is room for each row's index, so it takes no memory.
+pub fn acknowledge_rows(flight: &[FlightRow], acknowledged: &mut Vec<u32>)
+    requires room { vec_len acknowledged.old + length flight.now ≤ vec_capacity acknowledged.old }
+    ensures set { acknowledged.new.items ≡ acknowledge flight.now acknowledged.old.items }
+{
+    for row in flight {
+        if is_row_gated(row) {
+            add_in_room(acknowledged, row.index);
+        }
+    }
+}
