@@ -1,0 +1,21 @@
+//! The real outside: the current folder, its files as disks, the standard streams and the clock.
+//!
+//! This is the trusted edge. Each object is a few lines around std's call, meets its trait, and tells nothing of what it holds but how
+//! often it has failed; a source also whether its input has ended. What a file system or a drive does with what it is given no clause
+//! here can say.
+#![tactic(auto)]
+
+mod clock;
+mod disk;
+mod folder;
+mod sink;
+mod source;
+
+pub use clock::RealClock;
+pub use disk::RealDisk;
+pub use folder::FolderShelf;
+pub use sink::StdSink;
+pub use source::StdSource;
+
+#[cfg(test)]
+mod tests;
