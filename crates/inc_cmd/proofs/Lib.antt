@@ -1,4 +1,7 @@
+pub mod AnswerLemmas
+pub mod BlobLemmas
+pub mod CheckLemmas
+pub mod MakeLemmas
 pub mod NumberLemmas
 pub mod OutputLemmas
-pub mod AnswerLemmas
 pub mod ReadingLemmas

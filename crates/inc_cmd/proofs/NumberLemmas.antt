@@ -42,3 +42,14 @@ read word (Err error) is some h =
 pub parsed : {E : Type 0} (word : List ℕ) (r : Result ℕ E) → is_number word ≡ true → ParsesUnsigned 32 10 word r → result_ok r ≡ number_of (2 ^ 32 - 1) word
 parsed word r is h =
     read word r is (le_true 1 (length word) (first_true _ _ (first_true _ _ is))) (parse_digits digits 32 word r h (second_true _ _ is))
+
+read_size : {E : Type 0} (word : List ℕ) (r : Result ℕ E) → is_number word ≡ true → 0 < length word → OkIff r ((0 < length word) × (value_after 0 word < 2 ^ 64)) (value_after 0 word)
+    → result_ok r ≡ number_of (2 ^ 64 - 1) word
+read_size word (Ok value) is some h = rw (is, is_le (value_after 0 word) (2 ^ 64 - 1) (omega (arith, h.0.1))) (ap (λ v. Some v) h.1)
+read_size word (Err error) is some h =
+    let large : 2 ^ 64 ≤ value_after 0 word = elim (cases_lt (value_after 0 word) (2 ^ 64)) [ inl small ↦ absurd (h (some, small)) | inr large ↦ large ] in
+    rw (is, not_le (value_after 0 word) (2 ^ 64 - 1) (omega arith)) refl
+
+pub parsed_size : {E : Type 0} (word : List ℕ) (r : Result ℕ E) → is_number word ≡ true → ParsesUnsigned 64 10 word r → result_ok r ≡ number_of (2 ^ 64 - 1) word
+parsed_size word r is h =
+    read_size word r is (le_true 1 (length word) (first_true _ _ (first_true _ _ is))) (parse_digits digits 64 word r h (second_true _ _ is))

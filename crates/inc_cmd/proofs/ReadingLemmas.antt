@@ -1,6 +1,7 @@
 -- A read of any file, over a content that may not be told.
-use Rattle.std.proofs.Common.{◌≡◌, ◌≢◌, ℕ, List, Option, Some, None, Result, Ok, Err, refl, sym, ap, ◌∙◌}
-use Rattle.std.specs.Prelude.{IfSome}
+use Rattle.std.proofs.Common.{◌≡◌, ℕ, Bool, true, false, cond, List, Option, Some, None, Result, Ok, Err, refl, sym, ap, ◌∙◌}
+use Rattle.std.specs.Prelude.{IfSome, bytes_eq}
+use Rattle.std.proofs.lemmas.Slice.Eq.{bytes_eq-Decides}
 use Rattle.inc_tree.specs.Verified.{content_of}
 use Rattle.inc_tree.specs.declared.verified.Verified.{Verified}
 use Rattle.inc_layout.specs.Backing.{IsBackingFile, opened_of}
@@ -14,60 +15,84 @@ use Rattle.inc_layout.specs.declared.static_error.StaticError.{StaticError}
 use Rattle.inc_layout.specs.declared.static_error.StaticError.TheVariants as block
 use Rattle.inc_io.specs.Causes.{HasCauseAt}
 use Rattle.inc_cmd.specs.Refusing.{block_refusal, layout_refusal}
-use Rattle.inc_cmd.specs.Reading.{Answers, IsReadOf, of_block, of_opened, reading_of}
-use Rattle.inc_cmd.specs.declared.refusal.Refusal.TheVariants.{Layout, Block, ReadFault}
+use Rattle.inc_cmd.specs.Reading.{Answers, HasRoot, IsReadOf, Opens, named_file, of_block, of_opened, of_opening, of_root, reading_of}
+use Rattle.inc_cmd.specs.declared.refusal.Refusal.{Refusal}
+use Rattle.inc_cmd.specs.declared.refusal.Refusal.TheVariants.{ReadFault, OutOfMemory, RootDiffers}
 
-after_opening : (bytes : List ℕ) (index : ℕ) (opened : Opened) → opened_of bytes ≡ Ok opened → reading_of bytes index ≡ of_block (static_reading bytes opened index)
-unfolding reading_of
-after_opening bytes index opened e = ap (of_opened bytes index) e
+-- ---- the opening of a file
+
+with_opening : (bytes : List ℕ) (root : Option (List ℕ)) (found : Result Opened LayoutFault) → opened_of bytes ≡ found → named_file bytes root ≡ of_opening root found
+unfolding named_file
+with_opening bytes root found e = ap (of_opening root) e
 
 -- the file is none
-pub refused_file : (told : Option (List ℕ)) (index : ℕ) (fault : LayoutFault)
-    → IfSome told (λ bytes. GivesOpened (Err fault) (opened_of bytes)) → IfSome told (λ bytes. Answers bytes index (Err (layout_refusal fault)))
+pub refused_file : (told root : Option (List ℕ)) (fault : LayoutFault)
+    → IfSome told (λ bytes. GivesOpened (Err fault) (opened_of bytes)) → IfSome told (λ bytes. Opens bytes root (Err (layout_refusal fault)))
+refused_file None root fault given = tt
+refused_file (Some bytes) root layout.ReadFault given = tt
+refused_file (Some bytes) root layout.OutOfMemory given = tt
+refused_file (Some bytes) root fault given = with_opening bytes root (Err fault) given
+
+-- the file was opened, and its root judged
+pub judged_file : (told root : Option (List ℕ)) (opened : Opened) (result : Result Opened Refusal) → IfSome told (λ bytes. opened_of bytes ≡ Ok opened)
+    → result ≡ of_root root opened → IfSome told (λ bytes. Opens bytes root result)
+judged_file None root opened result is judged = tt
+judged_file (Some bytes) root opened result is judged = by_root root result (with_opening bytes root (Ok opened) is) judged
+  where
+    by_root : (root : Option (List ℕ)) (result : Result Opened Refusal) → named_file bytes root ≡ of_root root opened → result ≡ of_root root opened → Opens bytes root result
+    by_root root (Ok found) named judged = named ∙ sym judged
+    by_root root (Err ReadFault) named judged = tt
+    by_root root (Err OutOfMemory) named judged = tt
+    by_root root (Err refusal) named judged = named ∙ sym judged
+
+by_test : (opened found : Opened) (b : Bool) → ◌≡◌ {A = Result Opened Refusal} (Ok found) (cond b (Ok opened) (Err RootDiffers)) → (found ≡ opened) × (b ≡ true)
+by_test opened found true e = (cc, refl)
+by_test opened found false e = absurd (cc)
+
+bytes_are : (xs ys : List ℕ) → bytes_eq xs ys ≡ true → xs ≡ ys
+bytes_are xs ys e = (bytes_eq-Decides xs ys).0 e
+
+-- what passes is the opened file, with this root
+pub passed_root : (root : Option (List ℕ)) (opened found : Opened) → ◌≡◌ {A = Result Opened Refusal} (Ok found) (of_root root opened) → (found ≡ opened) × HasRoot root opened
+passed_root None opened found e = (cc, tt)
+passed_root (Some root) opened found e =
+    let p = by_test opened found (bytes_eq opened.sig.root root) e in
+    (p.0, bytes_are opened.sig.root root p.1)
+
+-- ---- a block of it
+
+after_naming : (bytes : List ℕ) (index : ℕ) (root : Option (List ℕ)) (found : Result Opened Refusal) → named_file bytes root ≡ found → reading_of bytes index root ≡ of_opened bytes index found
 unfolding reading_of
-refused_file None index fault given = tt
-refused_file (Some bytes) index layout.ReadFault given = tt
-refused_file (Some bytes) index layout.OutOfMemory given = tt
-refused_file (Some bytes) index layout.TooLong given = ap (of_opened bytes index) given
-refused_file (Some bytes) index (layout.Header inner) given = ap (of_opened bytes index) given
-refused_file (Some bytes) index layout.Mapped given = ap (of_opened bytes index) given
-refused_file (Some bytes) index layout.TooLarge given = ap (of_opened bytes index) given
-refused_file (Some bytes) index (layout.Chain inner) given = ap (of_opened bytes index) given
-refused_file (Some bytes) index layout.Unsigned given = ap (of_opened bytes index) given
-refused_file (Some bytes) index layout.SignatureOutside given = ap (of_opened bytes index) given
-refused_file (Some bytes) index (layout.Signature inner) given = ap (of_opened bytes index) given
-refused_file (Some bytes) index (layout.MapCount wanted got) given = ap (of_opened bytes index) given
-refused_file (Some bytes) index layout.MapOutside given = ap (of_opened bytes index) given
-refused_file (Some bytes) index (layout.TreeSize wanted got) given = ap (of_opened bytes index) given
-refused_file (Some bytes) index layout.TreeOutside given = ap (of_opened bytes index) given
-refused_file (Some bytes) index layout.Overlap given = ap (of_opened bytes index) given
-refused_file (Some bytes) index (layout.PlacePastEnd i) given = ap (of_opened bytes index) given
+after_naming bytes index root found e = ap (of_opened bytes index) e
+
+-- the file is refused
+pub refused_name : (told : Option (List ℕ)) (index : ℕ) (root : Option (List ℕ)) (refusal : Refusal) → IfSome told (λ bytes. Opens bytes root (Err refusal)) → IfSome told (λ bytes. Answers bytes index root (Err refusal))
+refused_name None index root refusal given = tt
+refused_name (Some bytes) index root ReadFault given = tt
+refused_name (Some bytes) index root OutOfMemory given = tt
+refused_name (Some bytes) index root refusal given = after_naming bytes index root (Err refusal) given
 
 -- the block can't be shown
-pub refused_block : (told : Option (List ℕ)) (index : ℕ) (opened : Opened) (error : StaticError)
-    → IfSome told (λ bytes. opened_of bytes ≡ Ok opened) → IfSome told (λ bytes. GivesReading (Err error) (static_reading bytes opened index))
-    → IfSome told (λ bytes. Answers bytes index (Err (block_refusal error)))
-refused_block None index opened error is given = tt
-refused_block (Some bytes) index opened block.ReadFault is given = tt
-refused_block (Some bytes) index opened block.OutOfMemory is given = tt
-refused_block (Some bytes) index opened block.OutOfRange is given = after_opening bytes index opened is ∙ ap of_block given
-refused_block (Some bytes) index opened block.Damaged is given = after_opening bytes index opened is ∙ ap of_block given
-refused_block (Some bytes) index opened block.Compressed is given = after_opening bytes index opened is ∙ ap of_block given
-refused_block (Some bytes) index opened block.Absent is given = after_opening bytes index opened is ∙ ap of_block given
-refused_block (Some bytes) index opened (block.PathAbsent hash) is given = after_opening bytes index opened is ∙ ap of_block given
-refused_block (Some bytes) index opened (block.Corrupt level wanted got) is given = after_opening bytes index opened is ∙ ap of_block given
+pub refused_block : (told : Option (List ℕ)) (index : ℕ) (root : Option (List ℕ)) (opened : Opened) (error : StaticError)
+    → IfSome told (λ bytes. named_file bytes root ≡ Ok opened) → IfSome told (λ bytes. GivesReading (Err error) (static_reading bytes opened index))
+    → IfSome told (λ bytes. Answers bytes index root (Err (block_refusal error)))
+refused_block None index root opened error is given = tt
+refused_block (Some bytes) index root opened block.ReadFault is given = tt
+refused_block (Some bytes) index root opened block.OutOfMemory is given = tt
+refused_block (Some bytes) index root opened error is given = after_naming bytes index root (Ok opened) is ∙ ap of_block given
 
 -- the block was read
-pub good_block : (told : Option (List ℕ)) (index : ℕ) (opened : Opened) (made : Verified)
-    → IfSome told (λ bytes. IsBackingFile bytes opened) → IfSome told (λ bytes. opened_of bytes ≡ Ok opened)
+pub good_block : (told : Option (List ℕ)) (index : ℕ) (root : Option (List ℕ)) (opened : Opened) (made : Verified)
+    → IfSome told (λ bytes. IsBackingFile bytes opened) → IfSome told (λ bytes. named_file bytes root ≡ Ok opened) → HasRoot root opened
     → IfSome told (λ bytes. static_reading bytes opened index ≡ Ok (content_of made)) → static.IsReadOf opened index made
-    → IfSome told (λ bytes. IsReadOf bytes index made)
-good_block None index opened made stands is content read = tt
-good_block (Some bytes) index opened made stands is content read = record {
+    → IfSome told (λ bytes. IsReadOf bytes index root made)
+good_block None index root opened made stands is given content read = tt
+good_block (Some bytes) index root opened made stands is given content read = record {
   opened = opened;
   stands = stands;
-  content = after_opening bytes index opened is ∙ ap of_block content;
-  root = read.root;
+  given = given;
+  content = after_naming bytes index root (Ok opened) is ∙ ap of_block content;
+  root_is = read.root;
   size = read.size;
   place = read.place;
 }

@@ -1,8 +1,13 @@
 pub mod Answering
+pub mod Checking
+pub mod Inspecting
+pub mod Inspects
+pub mod Makes
+pub mod Making
 pub mod Outside
 pub mod Parsing
 pub mod Plain
-pub mod Words
 pub mod Reading
 pub mod Refusals
 pub mod Refusing
+pub mod Words

@@ -1,8 +1,12 @@
 -- How a run of a command meets the outside.
 use Rattle.std.specs.Prelude.{◌≡◌, ◌≢◌, ◌⊎◌, ℕ, ◌<◌, ◌++◌, List, Option, option_map}
+use Rattle.inc_disk.specs.Log.{Log}
 use Rattle.inc_io.specs.Causes.{Rose}
+use Rattle.inc_layout.specs.Fresh.{fresh_of}
+use Rattle.inc_cmd.specs.Makes.{IsMade, MakesFile}
+use Rattle.inc_cmd.specs.Making.{blob_of}
 use Rattle.inc_cmd.specs.Plain.{Answer}
-use Rattle.inc_cmd.specs.Words.{Command, Read, Misfit}
+use Rattle.inc_cmd.specs.Words.{Command, Make, Misfit}
 
 -- the count didn't rise, and doesn't stand at its end
 abbrev pub IsQuiet : ℕ → ℕ → Type 0
@@ -28,4 +32,19 @@ IsTold before now status = before < now → (status ≡ 5) ⊎ (status ≡ 1) �
 -- status 1 comes exactly where the words fit no command, but for want of memory
 abbrev pub WordsAreTold : Command → ℕ → Type 0
 WordsAreTold (Misfit position) status = (status ≡ 1) ⊎ (status ≡ 6)
-WordsAreTold (Read name index) status = status ≢ 1
+WordsAreTold command status = status ≢ 1
+
+-- only a make changes what the shelf keeps
+abbrev pub KeepsUnlessMade : {K : Type 0} → Command → K → K → Type 0
+KeepsUnlessMade (Make name size id) before after = Unit {0}
+KeepsUnlessMade command before after = after ≡ before
+
+-- what stands on the shelf at each moment of the run, where the input gives this
+abbrev pub Leaves : Command → List ℕ → Log → Log → Type 0
+Leaves (Make name size id) given before after = MakesFile name (fresh_of size id (blob_of given)) before after
+Leaves command given before after = after ≡ before
+
+-- the named file is made
+abbrev pub Made : Command → List ℕ → Log → Type 0
+Made (Make name size id) given after = IsMade name (fresh_of size id (blob_of given)) after
+Made command given after = Unit {0}

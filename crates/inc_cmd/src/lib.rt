@@ -5,9 +5,15 @@
 #![tactic(auto)]
 
 mod answer;
+mod blob;
+mod checking;
+mod commands;
+mod inspecting;
+mod making;
 mod outcome;
 mod output;
 mod reading;
+mod reason;
 mod refusal;
 mod refusals;
 mod run;

@@ -61,8 +61,9 @@ fn chain_word(fault: ChainFault) -> &'static [u8]
     }
 }
 
+/// The word of a signature blob's refusal.
 #[tactic(auto, unfolding(crate::specs::Refusals::signature_word))]
-fn signature_word(fault: SigFault) -> &'static [u8]
+pub fn signature_word(fault: SigFault) -> &'static [u8]
     ensures value { result.now ≡ signature_word fault }
 {
     match fault {

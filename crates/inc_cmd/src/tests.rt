@@ -1,12 +1,19 @@
+mod checking;
 mod image;
+mod making;
+mod small;
 
 use crate::run_plain;
 use image::{
     COMPRESSED, DATA_TURNED, ENTRY_ANSWERS, HASH_TURNED, LAYOUT_FAULTS, changed, content, image,
 };
-use inc_io::{Bytes, MemShelf, MemSink, Name};
+use inc_disk::MemShelf;
+use inc_io::{Bytes, MemSink, MemSource, Name, StepClock};
 use std::alloc::Global;
 use std::test::Fail;
+
+/// More bytes than a file has.
+const ROOM: u64 = 1 << 20;
 
 /// More calls than a read makes.
 const MANY: u32 = 100;
@@ -21,17 +28,31 @@ fn answer_over(
     shelf_faults: &[u64],
     sink_faults: &[u64],
 ) -> Result<(u8, Vec<u8>), Fail> {
-    let mut shelf = MemShelf::new(alloc, calls);
+    let mut shelf = MemShelf::new(alloc, ROOM, calls);
     let name = Name::of(alloc, name.as_bytes())?.ok_or("a name")?;
     shelf.put(name, Bytes::of(alloc, bytes)?)?;
     shelf.fail(shelf_faults.to_vec(alloc)?);
+    let mut input = MemSource::new(Bytes::of(alloc, &[])?, 1, Vec::new(alloc));
     let mut out = MemSink::new(alloc, 1 << 20, 1000, sink_faults.to_vec(alloc)?)?;
+    let list = owned(alloc, words)?;
+    let clock = StepClock::new(0, 1);
+    let status = run_plain(
+        alloc,
+        list.as_slice(),
+        &mut shelf,
+        &mut input,
+        &mut out,
+        &clock,
+    );
+    Ok((status.0, out.bytes().to_vec(alloc)?))
+}
+
+fn owned(alloc: Global, words: &[&str]) -> Result<Vec<String>, Fail> {
     let mut list = Vec::new(alloc);
     for word in words {
         list.push(String::from_str(alloc, word)?)?;
     }
-    let status = run_plain(alloc, list.as_slice(), &mut shelf, &mut out);
-    Ok((status.0, out.bytes().to_vec(alloc)?))
+    Ok(list)
 }
 
 /// What `read two INDEX` answers over these bytes.

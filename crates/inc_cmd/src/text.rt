@@ -1,5 +1,7 @@
 ghost use Rattle.std.specs.Prelude.{◌≡◌, IfOk};
-ghost use Rattle.inc_cmd.specs.Plain.{block_line, corrupt_reason, missing, path_absent_reason, refused_line, words_line};
+ghost use Rattle.inc_cmd.specs.Inspecting.{part_of};
+ghost use Rattle.inc_cmd.specs.Making.{exists, made_counts, made_line, too_large};
+ghost use Rattle.inc_cmd.specs.Plain.{block_line, checked_line, corrupt_reason, missing, path_absent_reason, refused_line, root_differs, words_line};
 
 use crate::OutOfMemory;
 use inc_tree::Digest32;
@@ -69,4 +71,75 @@ pub fn path_absent_reason(alloc: Global, hash: u32) -> Result<Vec<u8>, OutOfMemo
     ensures value { IfOk result (λ reason. reason.items ≡ path_absent_reason hash) }
 {
     Ok(format!(in alloc; "path-absent {hash}")?.into_bytes())
+}
+
+#[tactic(auto, unfolding(crate::specs::Plain::root_differs))]
+pub fn root_differs() -> &'static [u8]
+    ensures value { result.now ≡ root_differs }
+{
+    b"root-differs"
+}
+
+/// `checked ok K of N`
+#[tactic(auto, unfolding(crate::specs::Plain::checked_line))]
+pub fn checked_line(alloc: Global, good: u32, count: u32) -> Result<Vec<u8>, OutOfMemory>
+    ensures value { IfOk result (λ line. line.items ≡ checked_line good count) }
+{
+    let mut line = b"checked ok ".to_vec(alloc)?;
+    line.extend_from_slice(part_of(alloc, good as usize, count)?.as_slice())?;
+    line.extend_from_slice(b"\n")?;
+    Ok(line)
+}
+
+/// `K of N`
+#[tactic(auto, unfolding(crate::specs::Inspecting::part_of))]
+pub fn part_of(alloc: Global, some: usize, all: u32) -> Result<Vec<u8>, OutOfMemory>
+    ensures value { IfOk result (λ part. part.items ≡ part_of some all) }
+{
+    Ok(format!(in alloc; "{some} of {all}")?.into_bytes())
+}
+
+#[tactic(auto, unfolding(crate::specs::Making::too_large))]
+pub fn too_large() -> &'static [u8]
+    ensures value { result.now ≡ too_large }
+{
+    b"too-large"
+}
+
+#[tactic(auto, unfolding(crate::specs::Making::exists))]
+pub fn exists() -> &'static [u8]
+    ensures value { result.now ≡ exists }
+{
+    b"exists"
+}
+
+/// `made NAME data N hash M length L`
+#[tactic(auto, unfolding(crate::specs::Making::made_line))]
+pub fn made_line(
+    alloc: Global,
+    name: &[u8],
+    data_count: u32,
+    hash_count: u32,
+    len: usize,
+) -> Result<Vec<u8>, OutOfMemory>
+    ensures value { IfOk result (λ line. line.items ≡ made_line name.now data_count hash_count len) }
+{
+    let mut line = b"made ".to_vec(alloc)?;
+    line.extend_from_slice(name)?;
+    line.extend_from_slice(made_counts(alloc, data_count, hash_count, len)?.as_slice())?;
+    line.extend_from_slice(b"\n")?;
+    Ok(line)
+}
+
+/// ` data N hash M length L`
+#[tactic(auto, unfolding(crate::specs::Making::made_counts))]
+fn made_counts(
+    alloc: Global,
+    data_count: u32,
+    hash_count: u32,
+    len: usize,
+) -> Result<Vec<u8>, OutOfMemory>
+    ensures value { IfOk result (λ counts. counts.items ≡ made_counts data_count hash_count len) }
+{
+    Ok(format!(in alloc; " data {data_count} hash {hash_count} length {len}")?.into_bytes())
 }

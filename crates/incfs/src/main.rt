@@ -1,14 +1,12 @@
-//! The program: a command and its words over the files of the current folder, with its text on standard output.
+//! The program: a command and its words over the files of the current folder, with its text on standard output. What a command takes besides
+//! comes from standard input.
 #![tactic(auto)]
 
 mod arguments;
-mod folder;
-mod output;
 
 use arguments::words_after_name;
-use folder::FolderShelf;
 use inc_cmd::{Status, run_plain};
-use output::StandardOutput;
+use inc_real::{FolderShelf, RealClock, StdSink, StdSource};
 use std::process::ExitCode;
 
 fn main(rt: HostRuntime) -> ExitCode {
@@ -16,7 +14,16 @@ fn main(rt: HostRuntime) -> ExitCode {
         return ExitCode::from(Status::OUT_OF_MEMORY.0);
     };
     let mut shelf = FolderShelf::new(&rt);
-    let mut out = StandardOutput::new(&rt);
-    let status = run_plain(rt.alloc(), words.as_slice(), &mut shelf, &mut out);
+    let mut input = StdSource::new(rt.reader());
+    let mut out = StdSink::new(&rt);
+    let clock = RealClock::new(&rt);
+    let status = run_plain(
+        rt.alloc(),
+        words.as_slice(),
+        &mut shelf,
+        &mut input,
+        &mut out,
+        &clock,
+    );
     ExitCode::from(status.0)
 }

@@ -61,6 +61,13 @@ pub fn image(alloc: Global) -> Result<Vec<u8>, AllocError> {
     Ok(file)
 }
 
+/// The same file as it is before a block has come: all behind the blob is zeros, up to the end of the tree.
+pub fn fresh(alloc: Global) -> Result<Vec<u8>, AllocError> {
+    let mut file = FRONT[..250].to_vec(alloc)?;
+    file.resize(8192, 0u8)?;
+    Ok(file)
+}
+
 /// Up to three bytes of a file, each with its place and its new value. Where fewer change, the last one stands again.
 pub type Changes = [(usize, u8); 3];
 
