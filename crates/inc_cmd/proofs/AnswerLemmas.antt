@@ -8,7 +8,7 @@ use Rattle.inc_cmd.specs.Reading.{Answers}
 use Rattle.inc_cmd.specs.declared.refusal.Refusal.{Refusal}
 use Rattle.inc_tree.specs.declared.verified.Verified.{Verified}
 use Rattle.inc_cmd.specs.Outside.{Appends, WordsAreTold}
-use Rattle.inc_cmd.specs.Words.{Command, Read, Misfit}
+use Rattle.inc_cmd.specs.Words.{Command, Read, Check, Misfit}
 use Rattle.inc_cmd.specs.Answering.{IsOutcome, PrintsProof, PrintsProofOf, ShowsProof, ShowsProofOf}
 use Rattle.inc_cmd.specs.Plain.{Answer, answer_of}
 use Rattle.inc_cmd.specs.declared.outcome.Outcome.{Outcome}
@@ -62,5 +62,6 @@ pub printed : (told : Option Contents) (command : Command) (outcome : Outcome) (
     → (status ≡ 0 → outcome.status.0 ≡ 0) → (status ≡ 0 → Appends before after outcome.text.items) → IfSome told (λ files. status ≡ 0 → PrintsProofOf command files before after)
 printed None command outcome status before after shows done sent = tt
 printed (Some files) (Read name index root) outcome status before after shows done sent = λ e. sent_proof (get files name) index root outcome.text.items before after (sent e) (shows (done e))
+printed (Some files) (Check name root) outcome status before after shows done sent = λ e. shows (done e)
 printed (Some files) (Misfit position) outcome status before after shows done sent = λ e. absurd (shows (done e))
 printed (Some files) command outcome status before after shows done sent = λ e. tt

@@ -37,7 +37,7 @@ pub told_kept : (told : Option (List ℕ)) (opened : Opened) → IfSome told (λ
 told_kept None opened = tt
 told_kept (Some bytes) opened = λ k d lt. absurd (omega arith)
 
-one_more : (p : ℕ → Bool) (count : ℕ) → count_by p (below count ++ count ∷ []) ≡ count_by p (below count) + cond (p count) 1 0
+pub one_more : (p : ℕ → Bool) (count : ℕ) → count_by p (below count ++ count ∷ []) ≡ count_by p (below count) + cond (p count) 1 0
 one_more p count = sum_by-append (λ (i : ℕ). cond (p i) 1 0) (below count) (count ∷ []) ∙ ap (λ (n : ℕ). count_by p (below count) + n) (zero_plus (cond (p count) 1 0))
   where
     zero_plus : (n : ℕ) → 0 + n ≡ n

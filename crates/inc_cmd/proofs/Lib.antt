@@ -1,6 +1,7 @@
 pub mod AnswerLemmas
 pub mod BlobLemmas
 pub mod CheckLemmas
+pub mod CheckedLemmas
 pub mod MakeLemmas
 pub mod NumberLemmas
 pub mod OutputLemmas

@@ -1,4 +1,5 @@
 use Rattle.std.proofs.Common.{refl}
+use Rattle.inc_cmd.proofs.CheckedLemmas.{told_proved}
 use Rattle.inc_cmd.proofs.MakeLemmas.{leaves, leaves_none}
 use Rattle.inc_cmd.proofs.answer.answer.Goals as goal
 
@@ -9,3 +10,6 @@ returns-in-Ok-Make-clause-moments g c =
 
 pub returns-in-Err-OutOfMemory-clause-moments : goal.returns-in-Err-OutOfMemory-clause-moments
 returns-in-Err-OutOfMemory-clause-moments g c = leaves_none _ _ _ _ refl
+
+pub returns-in-Ok-Check-clause-proved : goal.returns-in-Ok-Check-clause-proved
+returns-in-Ok-Check-clause-proved g c = told_proved _ _ _ _ _ (rw c.in-Ok-Check.field-0-is at c.in-Ok-Check.ensures.value) c.check.ensures.answer
