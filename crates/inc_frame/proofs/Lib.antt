@@ -1,0 +1,4 @@
+pub mod FrontLemmas
+pub mod Counts
+pub mod FedLemmas
+pub mod Spelling
