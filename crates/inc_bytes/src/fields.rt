@@ -1,7 +1,7 @@
 //! Numbers of two, four, six and eight bytes at a place of a slice, the least byte first.
 
 ghost use Rattle.std.specs.Prelude.{◌≡◌, ◌+◌, ◌<◌, ◌≤◌, ◌^◌, ◌++◌, length, take, drop, nat_le, IfSome};
-ghost use Rattle.inc_bytes.specs.Fields.{le_bytes, field_at};
+ghost use Rattle.inc_bytes.specs.Fields.{le_bytes, field, field_at};
 
 /// Whether the slice has `count` bytes from a place on.
 fn has_place(b: &[u8], at: usize, count: usize) -> bool
@@ -68,6 +68,30 @@ pub fn get_u64(b: &[u8], at: usize) -> Option<u64>
         b[at + 6],
         b[at + 7],
     ]))
+}
+
+/// The number of two bytes at a place that has them.
+pub fn u16_at(b: &[u8], at: usize) -> u16
+    requires place { at + 2 ≤ length b.now }
+    ensures value { result ≡ field 2 at b.now }
+{
+    get_u16(b, at).unwrap()
+}
+
+/// The number of four bytes at a place that has them.
+pub fn u32_at(b: &[u8], at: usize) -> u32
+    requires place { at + 4 ≤ length b.now }
+    ensures value { result ≡ field 4 at b.now }
+{
+    get_u32(b, at).unwrap()
+}
+
+/// The number of eight bytes at a place that has them.
+pub fn u64_at(b: &[u8], at: usize) -> u64
+    requires place { at + 8 ≤ length b.now }
+    ensures value { result ≡ field 8 at b.now }
+{
+    get_u64(b, at).unwrap()
 }
 
 /// Writes bytes over those from a place on.

@@ -5,9 +5,13 @@
 #![tactic(auto)]
 
 mod fields;
+mod growing;
 mod span;
 
-pub use fields::{get_u16, get_u32, get_u48, get_u64, put_u16, put_u32, put_u48, put_u64};
+pub use fields::{
+    get_u16, get_u32, get_u48, get_u64, put_u16, put_u32, put_u48, put_u64, u16_at, u32_at, u64_at,
+};
+pub use growing::{push_u16, push_u32, push_u64};
 pub use span::{Span, SpanList};
 
 /// Want of memory: the one answer that no clause ties to a cause.
@@ -15,9 +19,6 @@ pub type OutOfMemory = std::alloc::AllocError;
 
 /// A file's id: 16 bytes, as the header stores them.
 pub type Id = [u8; 16];
-
-/// A SHA-256 digest (FIPS 180-4): 32 bytes.
-pub type Digest32 = [u8; 32];
 
 #[cfg(test)]
 mod tests;

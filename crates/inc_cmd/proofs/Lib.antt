@@ -1,8 +1,8 @@
-pub mod AnswerLemmas
-pub mod BlobLemmas
 pub mod CheckLemmas
-pub mod CheckedLemmas
+pub mod GoodBlocks
+pub mod InputLemmas
 pub mod MakeLemmas
 pub mod NumberLemmas
 pub mod OutputLemmas
-pub mod ReadingLemmas
+pub mod ReadLemmas
+pub mod RunLemmas

@@ -1,26 +1,25 @@
 -- What a make leaves on a shelf, over a log that may not be told.
-use Rattle.std.proofs.Common.{◌≡◌, inl, inr, ⊎_elim, ℕ, suc, ◌-◌, ◌≤◌, Bool, true, false, List, [], ◌∷◌, ◌++◌, length, Option, Some, None, Result, refl, sym, ap, ◌∙◌, subst, arith}
+use Rattle.std.proofs.Common.{◌≡◌, inl, inr, ⊎_elim, ℕ, suc, ◌-◌, ◌≤◌, Bool, true, false, cond, List, [], ◌∷◌, ◌++◌, length, Option, Some, None, Result, Ok, Err, refl, sym, ap, ◌∙◌, subst, arith}
 use Rattle.std.specs.Prelude.{IfSome, IfOk, is_some, not, option_map, Contains}
 use Rattle.std.proofs.lemmas.List.Elements.{Contains-append_right}
-use Rattle.std.specs.FinMap.{get}
+use Rattle.std.specs.Str.{bytes_eq}
+use Rattle.std.specs.Cmp.Lexicographic.{texts_ties, nat_list_cmp_total}
+use Rattle.std.specs.FinMap.{get, get-insert, insert, same_map, slice_cmp-IsAntisymmetric, nat_cmp-IsAntisymmetric}
 use Rattle.inc_disk.specs.Disk.{DiskState, IsImage, MayHaveLeft, Now, settled}
 use Rattle.inc_disk.specs.Log.{Log, IsImageOf, MayHaveLeftFile, MayHaveLeftOf, contents_of, entries_of, newest_of}
 use Rattle.inc_disk.specs.Laws.{LeavesOnly}
-use Rattle.inc_disk.proofs.LogLemmas.{joins_images, lent_found}
+use Rattle.inc_disk.proofs.LogLemmas.{get_contents, joins_images, newest_other, newest_same}
 use Rattle.inc_io.specs.Contents.{Contents}
-use Rattle.inc_io.specs.declared.failed.LendFault.{LendFault}
 use Rattle.inc_recover.specs.Making.{MayBeLeft}
-use Rattle.inc_cmd.specs.Answering.{IsOutcome}
-use Rattle.inc_cmd.specs.Makes.{IsMade, MakesFile, MayBeMade}
-use Rattle.inc_cmd.specs.Making.{blob_of, exists, made_line}
-use Rattle.inc_cmd.specs.Outside.{Leaves}
-use Rattle.inc_cmd.specs.Words.{Command, Make, Read, Check, Inspect, Misfit}
-use Rattle.inc_layout.specs.Fresh.{fresh_of}
-use Rattle.inc_cmd.specs.Plain.{made, refused}
-use Rattle.inc_tree.specs.Geometry.{data_blocks, hash_blocks}
+use Rattle.inc_tree.specs.Geometry.{Shape}
+use Rattle.inc_cmd.specs.Commands.Make.{AddsOnly, LeavesNew, MayBeMade, made, made_text}
+use Rattle.inc_cmd.specs.Endings.{AnswersAs, EndsAs, refused}
+use Rattle.inc_cmd.specs.Refusals.{exists}
+use Rattle.inc_cmd.specs.Runs.{IfLogs}
 use Rattle.inc_cmd.specs.declared.outcome.Outcome.{Outcome}
+use Rattle.inc_cmd.specs.declared.stop.Stop.{Stop}
 
--- ---- the moments of a make
+-- ---- a shelf that stays as it is
 
 -- no moment is later than the present one
 not_later : (name : List ℕ) (moment : ℕ) (log : Log) (image : Option (List ℕ)) → MayHaveLeftOf name moment log image → moment ≤ length log
@@ -28,47 +27,27 @@ not_later name moment [] image left = left.0
 not_later name moment (entry ∷ past) image (inl here) = here.0
 not_later name moment (entry ∷ past) image (inr there) = let before : moment ≤ length past = not_later name moment past image there in omega arith
 
-same_log : (name fresh : List ℕ) (log : Log) → MakesFile name fresh log log
-same_log name fresh log = record {
-  untouched = λ e. refl;
-  own = ([], refl);
-  moments = λ image left. absurd (let late : suc (length log) ≤ length log = not_later name (suc (length log)) log image left in omega arith);
-}
+same_log : (name : List ℕ) (log : Log) → AddsOnly name log log
+same_log name log = record { untouched = λ e. refl; own = ([], refl) }
 
-stays : (before after : Option Log) (left : Option (List ℕ)) → after ≡ before → IfSome before (λ b. IfSome after (λ a. IfSome left (λ given. a ≡ b)))
-stays None after left same = tt
-stays (Some before) after left same = subst (λ (log : Option Log). IfSome log (λ a. IfSome left (λ given. a ≡ before))) (sym same) (go left)
-  where
-    go : (left : Option (List ℕ)) → IfSome left (λ given. before ≡ before)
-    go None = tt
-    go (Some given) = refl
+nothing_left : (name fresh : List ℕ) (log : Log) → LeavesNew name fresh log log
+nothing_left name fresh log = λ image left. absurd (let late : suc (length log) ≤ length log = not_later name (suc (length log)) log image left in omega arith)
 
-pub makes_none : (before after : Option Log) (name fresh : List ℕ) → after ≡ before → IfSome before (λ b. IfSome after (MakesFile name fresh b))
-makes_none None after name fresh same = tt
-makes_none (Some before) after name fresh same = subst (λ (log : Option Log). IfSome log (MakesFile name fresh before)) (sym same) (same_log name fresh before)
+pub adds_none : (before after : Option Log) (name : List ℕ) → after ≡ before → IfLogs before after (AddsOnly name)
+adds_none None after name same = tt
+adds_none (Some before) after name same = subst (λ (log : Option Log). IfSome log (AddsOnly name before)) (sym same) (same_log name before)
+
+pub leaves_none : (before after : Option Log) (name fresh : List ℕ) → after ≡ before → IfLogs before after (LeavesNew name fresh)
+leaves_none None after name fresh same = tt
+leaves_none (Some before) after name fresh same = subst (λ (log : Option Log). IfSome log (LeavesNew name fresh before)) (sym same) (nothing_left name fresh before)
 
 -- the same where the input may not be told
-pub made_none : (before after : Option Log) (left : Option (List ℕ)) (name : List ℕ) (fresh : List ℕ → List ℕ) → after ≡ before
-    → IfSome before (λ b. IfSome after (λ a. IfSome left (λ given. MakesFile name (fresh given) b a)))
-made_none None after left name fresh same = tt
-made_none (Some before) after left name fresh same = subst (λ (log : Option Log). IfSome log (λ a. IfSome left (λ given. MakesFile name (fresh given) before a))) (sym same) (go left)
-  where
-    go : (left : Option (List ℕ)) → IfSome left (λ given. MakesFile name (fresh given) before before)
-    go None = tt
-    go (Some given) = same_log name (fresh given) before
+pub given_none : (left : Option (List ℕ)) (before after : Option Log) (name : List ℕ) (fresh : List ℕ → List ℕ) → after ≡ before
+    → IfSome left (λ given. IfLogs before after (LeavesNew name (fresh given)))
+given_none None before after name fresh same = tt
+given_none (Some given) before after name fresh same = leaves_none before after name (fresh given) same
 
--- no command changes the shelf that stays as it is
-pub leaves_none : (before after : Option Log) (left : Option (List ℕ)) (command : Command) → after ≡ before
-    → IfSome before (λ b. IfSome after (λ a. IfSome left (λ given. Leaves command given b a)))
-leaves_none before after left (Make name size id) same = made_none before after left name (λ given. fresh_of size id (blob_of given)) same
-leaves_none before after left (Read name index root) same = stays before after left same
-leaves_none before after left (Check name root) same = stays before after left same
-leaves_none before after left (Inspect name) same = stays before after left same
-leaves_none before after left (Misfit position) same = stays before after left same
-
-pub leaves : (before after : Option Log) (left : Option (List ℕ)) (command named : Command) → command ≡ named
-    → IfSome before (λ b. IfSome after (λ a. IfSome left (λ given. Leaves named given b a))) → IfSome before (λ b. IfSome after (λ a. IfSome left (λ given. Leaves command given b a)))
-leaves before after left command named e is = subst (λ (c : Command). IfSome before (λ b. IfSome after (λ a. IfSome left (λ given. Leaves c given b a)))) (sym e) is
+-- ---- the moments of a make
 
 -- what a crash left as the file came to stand is left by the run too
 first_left : (states more : List DiskState) (first : DiskState) (image : List ℕ) → states ≡ more ++ first ∷ [] → IsImage first image → MayHaveLeft 1 states image
@@ -82,18 +61,21 @@ own_entries : (name : List ℕ) (states : List DiskState) (first : DiskState) (l
 own_entries name [] first log = refl
 own_entries name (disk ∷ past) first log = ap (λ (rest : Log). (name, disk) ∷ rest) (own_entries name past first log)
 
-file_log : (name fresh : List ℕ) (states : List DiskState) (log : Log) → true ≡ not (is_some (newest_of name log)) → LeavesOnly (settled [] ∷ []) states (MayBeLeft fresh)
-    → MakesFile name fresh log (entries_of name states ++ (name, settled []) ∷ log)
-file_log name fresh states log free leaves = record {
+own_file : (name : List ℕ) (states : List DiskState) (log : Log) → true ≡ not (is_some (newest_of name log)) → AddsOnly name log (entries_of name states ++ (name, settled []) ∷ log)
+own_file name states log free = record {
   untouched = λ there. absurd (none (is_some (newest_of name log)) free there);
   own = (states ++ settled [] ∷ [], own_entries name states (settled []) log);
-  moments = λ image left. ⊎_elim (on_shelf image) (of_disk image) ((joins_images name states ((name, settled []) ∷ log)).each (suc (length log)) image left);
 }
   where
     none : (there : Bool) → true ≡ not there → there ≡ true → ⊥
     none true free e = absurd (cc)
     none false free e = absurd (cc)
 
+file_log : (name fresh : List ℕ) (states : List DiskState) (log : Log) → LeavesOnly (settled [] ∷ []) states (MayBeLeft fresh)
+    → LeavesNew name fresh log (entries_of name states ++ (name, settled []) ∷ log)
+file_log name fresh states log leaves =
+    λ image left. ⊎_elim (on_shelf image) (of_disk image) ((joins_images name states ((name, settled []) ∷ log)).each (suc (length log)) image left)
+  where
     empty : (image : List ℕ) → IsImage (settled []) image → MayBeLeft fresh image
     empty image is = leaves.each image (first_left states leaves.grew.0 (settled []) image leaves.grew.1 is)
 
@@ -117,68 +99,103 @@ file_log name fresh states log free leaves = record {
         earlier bytes (inr there) = absurd there
 
 -- a file came to stand, was written and given back
-pub makes_file : (told created after : Option Log) (name fresh : List ℕ) (lent states : List DiskState) → IfSome told (λ log. true ≡ not (is_some (newest_of name log)))
-    → IfSome told (λ log. lent ≡ settled [] ∷ []) → created ≡ option_map (λ log. (name, settled []) ∷ log) told → after ≡ option_map (λ log. entries_of name states ++ log) created
-    → LeavesOnly lent states (MayBeLeft fresh) → IfSome told (λ before. IfSome after (MakesFile name fresh before))
-makes_file None created after name fresh lent states free empty made back leaves = tt
-makes_file (Some log) created after name fresh lent states free empty made back leaves =
-    let all : after ≡ Some (entries_of name states ++ (name, settled []) ∷ log) = back ∙ ap (option_map (λ (entries : Log). entries_of name states ++ entries)) made in
-    subst (λ (told : Option Log). IfSome told (MakesFile name fresh log)) (sym all)
-    (file_log name fresh states log free (subst (λ (ds : List DiskState). LeavesOnly ds states (MayBeLeft fresh)) empty leaves))
+all_entries : (log : Log) (created after : Option Log) (name : List ℕ) (states : List DiskState) → created ≡ option_map (λ log. (name, settled []) ∷ log) (Some log)
+    → after ≡ option_map (λ log. entries_of name states ++ log) created → after ≡ Some (entries_of name states ++ (name, settled []) ∷ log)
+all_entries log created after name states made back = back ∙ ap (option_map (λ (entries : Log). entries_of name states ++ entries)) made
 
--- ---- the file as it stands
+pub adds_file : (told created after : Option Log) (name : List ℕ) (states : List DiskState) → IfSome told (λ log. true ≡ not (is_some (newest_of name log)))
+    → created ≡ option_map (λ log. (name, settled []) ∷ log) told → after ≡ option_map (λ log. entries_of name states ++ log) created → IfLogs told after (AddsOnly name)
+adds_file None created after name states free made back = tt
+adds_file (Some log) created after name states free made back =
+    subst (λ (told : Option Log). IfSome told (AddsOnly name log)) (sym (all_entries log created after name states made back)) (own_file name states log free)
 
-newest_made : (name fresh : List ℕ) (states more : List DiskState) (first : DiskState) (log : Log) → states ≡ more ++ first ∷ [] → Now states (λ state. state ≡ settled fresh) → IsMade name fresh (entries_of name states ++ log)
-newest_made name fresh [] more first log grew now = absurd (none more grew)
+pub leaves_file : (told created after : Option Log) (name fresh : List ℕ) (lent states : List DiskState) → IfSome told (λ log. lent ≡ settled [] ∷ [])
+    → created ≡ option_map (λ log. (name, settled []) ∷ log) told → after ≡ option_map (λ log. entries_of name states ++ log) created
+    → LeavesOnly lent states (MayBeLeft fresh) → IfLogs told after (LeavesNew name fresh)
+leaves_file None created after name fresh lent states empty made back leaves = tt
+leaves_file (Some log) created after name fresh lent states empty made back leaves =
+    subst (λ (told : Option Log). IfSome told (LeavesNew name fresh log)) (sym (all_entries log created after name states made back))
+    (file_log name fresh states log (subst (λ (ds : List DiskState). LeavesOnly ds states (MayBeLeft fresh)) empty leaves))
+
+-- ---- the files that stand afterwards
+
+by_name : (name other fresh : List ℕ) (disk : DiskState) (past : List DiskState) (log : Log) (same : Bool) → bytes_eq other name ≡ same → disk.reads ≡ fresh
+    → option_map (λ (d : DiskState). d.reads) (newest_of other (entries_of name (disk ∷ past) ++ (name, settled []) ∷ log)) ≡ cond same (Some fresh) (get (contents_of log) other)
+by_name name other fresh disk past log true is reads =
+    ap (option_map (λ (d : DiskState). d.reads)) (newest_same other name disk past ((name, settled []) ∷ log) is) ∙ ap (λ (bytes : List ℕ). Some bytes) reads
+by_name name other fresh disk past log false is reads =
+    ap (option_map (λ (d : DiskState). d.reads)) (newest_other other name (disk ∷ past) ((name, settled []) ∷ log) is ∙ newest_other other name (settled [] ∷ []) log is)
+    ∙ sym (get_contents log other)
+
+with_file : (name fresh : List ℕ) (disk : DiskState) (past : List DiskState) (log : Log) → disk.reads ≡ fresh
+    → contents_of (entries_of name (disk ∷ past) ++ (name, settled []) ∷ log) ≡ insert (contents_of log) name fresh
+with_file name fresh disk past log reads =
+    same_map nat_list_cmp_total (slice_cmp-IsAntisymmetric nat_cmp-IsAntisymmetric) _ _ (λ (other : List ℕ).
+    get_contents (entries_of name (disk ∷ past) ++ (name, settled []) ∷ log) other
+    ∙ by_name name other fresh disk past log (bytes_eq other name) refl reads
+    ∙ ap (λ (b : Bool). cond b (Some fresh) (get (contents_of log) other)) (texts_ties other name)
+    ∙ sym (get-insert nat_list_cmp_total (contents_of log) name fresh other))
+
+now_file : (name fresh : List ℕ) (states more : List DiskState) (first : DiskState) (log : Log) → states ≡ more ++ first ∷ [] → Now states (λ state. state ≡ settled fresh)
+    → contents_of (entries_of name states ++ (name, settled []) ∷ log) ≡ insert (contents_of log) name fresh
+now_file name fresh [] more first log grew now = absurd (none more grew)
   where
     none : (more : List DiskState) → [] ≡ more ++ first ∷ [] → ⊥
     none [] e = absurd (cc)
     none (disk ∷ past) e = absurd (cc)
-newest_made name fresh (disk ∷ past) more first log grew now = (joins_images name (disk ∷ past) log).newest disk past refl ∙ ap (λ (d : DiskState). Some d) now
-
-pub makes_whole : (told created after : Option Log) (name fresh : List ℕ) (lent states : List DiskState) → IfSome told (λ log. lent ≡ settled [] ∷ [])
-    → created ≡ option_map (λ log. (name, settled []) ∷ log) told → after ≡ option_map (λ log. entries_of name states ++ log) created
-    → LeavesOnly lent states (MayBeLeft fresh) → Now states (λ state. state ≡ settled fresh) → IfSome after (IsMade name fresh)
-makes_whole None created after name fresh lent states empty made back leaves now =
-    let all : after ≡ None = back ∙ ap (option_map (λ (entries : Log). entries_of name states ++ entries)) made in
-    subst (λ (told : Option Log). IfSome told (IsMade name fresh)) (sym all) tt
-makes_whole (Some log) created after name fresh lent states empty made back leaves now =
-    let all : after ≡ Some (entries_of name states ++ (name, settled []) ∷ log) = back ∙ ap (option_map (λ (entries : Log). entries_of name states ++ entries)) made in
-    subst (λ (told : Option Log). IfSome told (IsMade name fresh)) (sym all)
-    (newest_made name fresh states leaves.grew.0 (settled []) _ (leaves.grew.1 ∙ ap (λ (ds : List DiskState). leaves.grew.0 ++ ds) empty) now)
+now_file name fresh (disk ∷ past) more first log grew now = with_file name fresh disk past log (ap (λ (d : DiskState). d.reads) now)
 
 -- ---- what is answered
 
-not_some : (lent there : Bool) → lent ≡ not there → there ≡ not lent
-not_some lent true e = cc
-not_some lent false e = cc
+there_is : (log : Log) (name : List ℕ) (there : Bool) → there ≡ is_some (newest_of name log) → is_some (get (contents_of log) name) ≡ there
+there_is log name there is = ap is_some (get_contents log name) ∙ mapped (newest_of name log) ∙ sym is
+  where
+    mapped : (newest : Option DiskState) → is_some (option_map (λ (d : DiskState). d.reads) newest) ≡ is_some newest
+    mapped None = refl
+    mapped (Some disk) = refl
 
--- whether the name is there decides the answer
-decided : (told : Option Contents) (log : Option Log) (name : List ℕ) (lent : Bool) → told ≡ option_map contents_of log → IfSome log (λ entries. lent ≡ not (is_some (newest_of name entries)))
-    → IfSome told (λ files. is_some (get files name) ≡ not lent)
-decided told None name lent same found = subst (λ (t : Option Contents). IfSome t (λ files. is_some (get files name) ≡ not lent)) (sym same) tt
-decided told (Some entries) name lent same found =
-    subst (λ (t : Option Contents). IfSome t (λ files. is_some (get files name) ≡ not lent)) (sym same)
-    (sym (lent_found (not lent) entries name (sym (not_some lent (is_some (newest_of name entries)) found))))
+not_true : (b : Bool) → false ≡ not b → true ≡ b
+not_true true e = refl
+not_true false e = absurd (cc)
+
+not_false : (b : Bool) → true ≡ not b → false ≡ b
+not_false false e = refl
+not_false true e = absurd (cc)
+
+outcome_stays : (name : List ℕ) (shape : Shape) (fresh : List ℕ) (files : Contents) (stored : Option (List ℕ)) (now : Option Contents) (result : Result Outcome Stop) → is_some stored ≡ true
+    → now ≡ Some files → IfOk result (EndsAs (refused name exists)) → IfOk result (λ outcome. AnswersAs (made name shape fresh files stored) outcome now)
+outcome_stays name shape fresh files None now result there same ends = absurd (cc)
+outcome_stays name shape fresh files (Some bytes) now (Ok outcome) there same ends = record { status_is = ends.status_is; text_is = ends.text_is; after_is = same }
+outcome_stays name shape fresh files (Some bytes) now (Err stop) there same ends = tt
 
 -- nothing was lent, since the name is there
-pub answers_exists : (told : Option Contents) (log : Option Log) (name : List ℕ) (size len : ℕ) (result : Result Outcome LendFault) → told ≡ option_map contents_of log
-    → IfSome log (λ entries. false ≡ not (is_some (newest_of name entries))) → IfOk result (IsOutcome (refused name exists))
-    → IfSome told (λ files. IfOk result (IsOutcome (made name size len (is_some (get files name)))))
-answers_exists told log name size len result same found is = go told (decided told log name false same found)
-  where
-    go : (told : Option Contents) → IfSome told (λ files. is_some (get files name) ≡ true) → IfSome told (λ files. IfOk result (IsOutcome (made name size len (is_some (get files name)))))
-    go None there = tt
-    go (Some files) there = subst (λ (b : Bool). IfOk result (IsOutcome (made name size len b))) (sym there) is
+pub answers_exists : (told now : Option Contents) (log : Option Log) (name : List ℕ) (shape : Shape) (fresh : List ℕ) (result : Result Outcome Stop) → told ≡ option_map contents_of log → now ≡ told
+    → IfSome log (λ entries. false ≡ not (is_some (newest_of name entries))) → IfOk result (EndsAs (refused name exists))
+    → IfSome told (λ files. IfOk result (λ outcome. AnswersAs (made name shape fresh files (get files name)) outcome now))
+answers_exists told now None name shape fresh result is same found ends =
+    subst (λ (t : Option Contents). IfSome t (λ files. IfOk result (λ outcome. AnswersAs (made name shape fresh files (get files name)) outcome now))) (sym is) tt
+answers_exists told now (Some log) name shape fresh result is same found ends =
+    subst (λ (t : Option Contents). IfSome t (λ files. IfOk result (λ outcome. AnswersAs (made name shape fresh files (get files name)) outcome now))) (sym is)
+    (outcome_stays name shape fresh (contents_of log) (get (contents_of log) name) now result (there_is log name true (not_true (is_some (newest_of name log)) found)) (same ∙ is) ends)
 
-pub answers_made : (told : Option Contents) (log : Option Log) (name : List ℕ) (size len : ℕ) (outcome : Outcome) → told ≡ option_map contents_of log
-    → IfSome log (λ entries. true ≡ not (is_some (newest_of name entries))) → outcome.status.0 ≡ 0 → outcome.text.items ≡ made_line name (data_blocks size) (hash_blocks size) len
-    → IfSome told (λ files. IsOutcome (made name size len (is_some (get files name))) outcome)
-answers_made told log name size len outcome same found status text = go told (decided told log name true same found)
-  where
-    go : (told : Option Contents) → IfSome told (λ files. is_some (get files name) ≡ false) → IfSome told (λ files. IsOutcome (made name size len (is_some (get files name))) outcome)
-    go None there = tt
-    go (Some files) there = subst (λ (b : Bool). IsOutcome (made name size len b) outcome) (sym there) (record { status_is = status; text_is = text })
+outcome_made : (name : List ℕ) (shape : Shape) (fresh : List ℕ) (files : Contents) (stored : Option (List ℕ)) (now : Option Contents) (outcome : Outcome) → is_some stored ≡ false
+    → now ≡ Some (insert files name fresh) → outcome.status.0 ≡ 0 → outcome.text.items ≡ made_text name shape fresh → AnswersAs (made name shape fresh files stored) outcome now
+outcome_made name shape fresh files (Some bytes) now outcome there after status text = absurd (cc)
+outcome_made name shape fresh files None now outcome there after status text = record { status_is = status; text_is = text; after_is = after }
+
+pub answers_made : (told now : Option Contents) (log created after : Option Log) (name : List ℕ) (shape : Shape) (fresh : List ℕ) (lent states : List DiskState) (outcome : Outcome)
+    → told ≡ option_map contents_of log → now ≡ option_map contents_of after → IfSome log (λ entries. true ≡ not (is_some (newest_of name entries)))
+    → IfSome log (λ log. lent ≡ settled [] ∷ []) → created ≡ option_map (λ log. (name, settled []) ∷ log) log → after ≡ option_map (λ log. entries_of name states ++ log) created
+    → LeavesOnly lent states (MayBeLeft fresh) → Now states (λ state. state ≡ settled fresh) → outcome.status.0 ≡ 0 → outcome.text.items ≡ made_text name shape fresh
+    → IfSome told (λ files. AnswersAs (made name shape fresh files (get files name)) outcome now)
+answers_made told now None created after name shape fresh lent states outcome is now_is free empty made_is back leaves whole status text =
+    subst (λ (t : Option Contents). IfSome t (λ files. AnswersAs (made name shape fresh files (get files name)) outcome now)) (sym is) tt
+answers_made told now (Some log) created after name shape fresh lent states outcome is now_is free empty made_is back leaves whole status text =
+    let same : contents_of (entries_of name states ++ (name, settled []) ∷ log) ≡ insert (contents_of log) name fresh =
+    now_file name fresh states leaves.grew.0 (settled []) log (leaves.grew.1 ∙ ap (λ (ds : List DiskState). leaves.grew.0 ++ ds) empty) whole in
+    subst (λ (t : Option Contents). IfSome t (λ files. AnswersAs (made name shape fresh files (get files name)) outcome now)) (sym is)
+    (outcome_made name shape fresh (contents_of log) (get (contents_of log) name) now outcome (there_is log name false (not_false (is_some (newest_of name log)) free))
+    (now_is ∙ ap (option_map contents_of) (all_entries log created after name states made_is back) ∙ ap (λ (c : Contents). Some c) same) status text)
 
 -- ---- the name is out while its disk is lent
 

@@ -4,7 +4,7 @@ use Rattle.std.proofs.Math.Seq.{take-length}
 use Rattle.std.specs.Prelude.{option_map}
 use Rattle.std.proofs.lemmas.List.{take-append-drop, drop-drop}
 use Rattle.inc_bytes.proofs.Numbers.{take-then}
-use Rattle.inc_cmd.specs.Outside.{Appends, AppendsFront}
+use Rattle.inc_cmd.specs.Runs.{Appends, AppendsFront}
 
 -- what is left of the text, and that all before it was taken
 pub record Sent (before after : Option (List ℕ)) (text rest : List ℕ) : Type 0 where

@@ -8,8 +8,8 @@ use Rattle.inc_cmd.specs.declared.words.WordsFault.TheVariants.{Bad, OutOfMemory
 
 -- the result is this command, or want of memory
 abbrev pub Reads : words.Command → Result Command WordsFault → Type 0
-Reads command (Ok (Make name size id)) = command ≡ words.Make name size id
-Reads command (Ok (Read name index root)) = command ≡ words.Read name index root
+Reads command (Ok (Make name size id unsigned)) = command ≡ words.Make name size id unsigned
+Reads command (Ok (Read name index root unproved)) = command ≡ words.Read name index root unproved
 Reads command (Ok (Check name root)) = command ≡ words.Check name root
 Reads command (Ok (Inspect name)) = command ≡ words.Inspect name
 Reads command (Err (Bad at)) = command ≡ words.Misfit at

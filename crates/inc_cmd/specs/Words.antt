@@ -1,21 +1,25 @@
 -- The words of a command. Words that fit no row are refused by the position of the first that doesn't fit, or by their number where more are needed.
 --
---     make NAME SIZE ID     SIZE is a u64, ID a UUID in one of its text forms
---     read NAME INDEX       INDEX is a u32
---     check NAME
+--     make NAME SIZE ID     SIZE is a u64, ID a UUID in one of its text forms; then `--unsigned` may stand
+--     read NAME INDEX       INDEX is a u32; then `--root HEX` or `--unproved` may stand
+--     check NAME            then `--root HEX` may stand
 --     inspect NAME
 --
--- After `read NAME INDEX` and `check NAME` the two words `--root HEX` may stand, with HEX of 64 hex digits of either case.
-use Rattle.std.specs.Prelude.{ℕ, ◌+◌, ◌-◌, ◌*◌, ◌^◌, ◌&&◌, nat_le, Bool, if◌then◌else◌, List, [], ◌∷◌, length, Option, Some, None, Result, Ok, Err, codes, bytes_eq}
+-- HEX is 64 hex digits of either case.
+use Rattle.std.specs.Prelude.{ℕ, ◌+◌, ◌-◌, ◌*◌, ◌^◌, ◌&&◌, nat_le, Bool, true, false, if◌then◌else◌, List, [], ◌∷◌, length, Option, Some, None, Result, Ok, Err, codes, bytes_eq, map}
 use Rattle.std.specs.Result.{result_ok}
 use Rattle.std.specs.Str.{all_ascii_digits}
+use Rattle.std.specs.String.{string_bytes}
+use Rattle.std.specs.declared.alloc.Global.{Global}
+use Rattle.std.specs.declared.string.String.{String}
 use Rattle.hex.specs.Hex.{decode_sized}
 use Rattle.uuid.specs.Text.{parsed}
 use Rattle.inc_io.specs.Names.{is_name}
 
+-- of a make whether the file is unsigned, of a read whether the block is taken unproved; and words that fit no command
 pub data Command : Type 0 where
-  Make : List ℕ → ℕ → List ℕ → Command
-  Read : List ℕ → ℕ → Option (List ℕ) → Command
+  Make : List ℕ → ℕ → List ℕ → Bool → Command
+  Read : List ℕ → ℕ → Option (List ℕ) → Bool → Command
   Check : List ℕ → Option (List ℕ) → Command
   Inspect : List ℕ → Command
   Misfit : ℕ → Command
@@ -66,10 +70,20 @@ id_word word = parsed word
 
 -- ---- the commands
 
+unfoldable pub unsigned_word : List ℕ
+unsigned_word = codes "--unsigned"
+
+abbrev pub make_last : List ℕ → ℕ → List ℕ → List (List ℕ) → Command
+make_last name size id [] = Make name size id true
+make_last name size id (word ∷ words) = Misfit 5
+
+abbrev pub make_after : List ℕ → ℕ → List ℕ → List (List ℕ) → Command
+make_after name size id [] = Make name size id false
+make_after name size id (word ∷ words) = if bytes_eq word unsigned_word then make_last name size id words else Misfit 4
+
 abbrev pub make_end : List ℕ → ℕ → List (List ℕ) → Option (List ℕ) → Command
 make_end name size words None = Misfit 3
-make_end name size [] (Some id) = Make name size id
-make_end name size (word ∷ words) (Some id) = Misfit 4
+make_end name size words (Some id) = make_after name size id words
 
 abbrev pub make_id : List ℕ → ℕ → List (List ℕ) → Command
 make_id name size [] = Misfit 3
@@ -87,13 +101,27 @@ abbrev pub make_name : List (List ℕ) → Command
 make_name [] = Misfit 1
 make_name (word ∷ words) = if is_name word then make_size word words else Misfit 1
 
+unfoldable pub unproved_word : List ℕ
+unproved_word = codes "--unproved"
+
+abbrev pub read_last : List ℕ → ℕ → List (List ℕ) → Command
+read_last name index [] = Read name index None true
+read_last name index (word ∷ words) = Misfit 4
+
 abbrev pub read_with : List ℕ → ℕ → Result (Option (List ℕ)) ℕ → Command
-read_with name index (Ok root) = Read name index root
+read_with name index (Ok root) = Read name index root false
 read_with name index (Err position) = Misfit position
+
+abbrev pub read_after : List ℕ → ℕ → List (List ℕ) → Command
+read_after name index [] = Read name index None false
+read_after name index (word ∷ words) =
+    if bytes_eq word root_word then read_with name index (root_value 4 words)
+    else if bytes_eq word unproved_word then read_last name index words
+    else Misfit 3
 
 abbrev pub read_end : List ℕ → List (List ℕ) → Option ℕ → Command
 read_end name words None = Misfit 2
-read_end name words (Some index) = read_with name index (root_words 3 words)
+read_end name words (Some index) = read_after name index words
 
 abbrev pub read_index : List ℕ → List (List ℕ) → Command
 read_index name [] = Misfit 2
@@ -139,3 +167,7 @@ command_of (word ∷ words) =
     else if bytes_eq word check_word then check_name words
     else if bytes_eq word inspect_word then inspect_name words
     else Misfit 0
+
+-- the command that a program's words name
+abbrev pub command_in : List (String Global) → Command
+command_in words = command_of (map (λ word. string_bytes word) words)

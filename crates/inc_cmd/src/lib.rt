@@ -1,25 +1,23 @@
 //! The commands of incfs: their words, what they answer, and the one call that the program makes.
 //!
-//! `run_plain` carries the program's theorem: over a shelf that tells what it holds, status and text are those that the definitions
-//! of `specs/` give for these words and these files, or a fault is told that came.
+//! `run_plain` carries the program's theorem: over a shelf that tells what it holds, status, text and the files that stand afterwards are
+//! those that the definitions of `specs/` give for these words, these files and what the input gives, or a fault is told that came.
 #![tactic(auto)]
 
+// The call, and how it ends.
 mod answer;
-mod blob;
-mod checking;
-mod commands;
-mod inspecting;
-mod making;
 mod outcome;
-mod output;
-mod reading;
-mod reason;
-mod refusal;
-mod refusals;
 mod run;
 mod status;
-mod text;
+mod stop;
+
+// The words, and the commands that they name.
+mod commands;
 mod words;
+
+// What is printed, and where bytes go and come from.
+mod streams;
+mod texts;
 
 pub use run::run_plain;
 pub use status::Status;

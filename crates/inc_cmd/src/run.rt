@@ -1,18 +1,17 @@
-ghost use Rattle.std.specs.Prelude.{◌≡◌, ◌≢◌, ◌⊎◌, IfSome, map};
-ghost use Rattle.std.specs.String.{string_bytes};
+ghost use Rattle.std.specs.Prelude.{◌≡◌, ◌≢◌, ◌⊎◌, ◌<◌, ◌≤◌, false, IfSome};
 ghost use Rattle.inc_io.specs.Causes.{Rose};
 ghost use Rattle.inc_io.specs.Outside.{NoneOut};
-ghost use Rattle.inc_cmd.specs.Answering.{PrintsProofOf};
-ghost use Rattle.inc_cmd.specs.Outside.{Appends, AppendsFront, IsAnswered, IsQuiet, IsTold, KeepsUnlessMade, Leaves, Made, WordsAreTold};
-ghost use Rattle.inc_cmd.specs.Plain.{plain};
-ghost use Rattle.inc_cmd.specs.Words.{command_of};
+ghost use Rattle.inc_cmd.specs.Commands.Make.{most_taken};
+ghost use Rattle.inc_cmd.specs.Runs.{Appends, AppendsFront, ChangesOnly, EndsAsPlain, HasFailed, IfLogs, IsQuiet, IsTold, KeepsInput, KeepsShelf, LeavesFiles, Made, Prints, PrintsFront, Shows, TakesFront, Vouches, WordsAreTold, given_to, reads_input};
+ghost use Rattle.inc_cmd.specs.Words.{command_in};
 
 use crate::Status;
 use crate::answer::answer;
 use crate::outcome::Outcome;
-use crate::output::write_all;
+use crate::stop::Stop;
+use crate::streams::output::write_all;
 use inc_disk::Shelf;
-use inc_io::{Clock, LendFault, Sink, Source};
+use inc_io::{Clock, Sink, Source};
 use std::alloc::Global;
 
 /// Does the command that the words name over a shelf, with what the input gives, writes its text and gives the exit status. Main makes this one call.
@@ -26,40 +25,46 @@ pub fn run_plain<S: Shelf, I: Source, O: Sink, C: Clock>(
 ) -> Status
     requires { NoneOut (S.out shelf.old) }
 
-    // Where nothing failed, text and status are the definition's.
-    ensures answer { IfSome (S.contents (S.kept shelf.old)) (λ files. IfSome (I.left input.old) (λ given.
-        IsQuiet (S.faults shelf.old) (S.faults shelf.new) → IsQuiet (I.faults input.old) (I.faults input.new) →
-        IsQuiet (O.faults out.old) (O.faults out.new) → result.0 ≢ 6 →
-        IsAnswered (plain (map (λ word. string_bytes word) words.now) files given) result.0 (O.written out.old) (O.written out.new))) }
+    // Where the run ends neither by a fault nor for want of memory, status, text and the files that then stand are the definition's.
+    ensures answer { IsQuiet (O.faults out.old) (O.faults out.new) → result.0 ≢ 5 → result.0 ≢ 6 →
+        EndsAsPlain (command_in words.now) (S.contents (S.kept shelf.old)) (I.left input.old) result.0 (O.written out.old) (O.written out.new) (S.contents (S.kept shelf.new)) }
     // In any case what was written is a front of the definition's text.
-    ensures front { IfSome (S.contents (S.kept shelf.old)) (λ files. IfSome (I.left input.old) (λ given.
-        AppendsFront (O.written out.old) (O.written out.new) (plain (map (λ word. string_bytes word) words.now) files given).text)) }
-    // No unproved byte is shown: at status 0 the text is a block whose path proves it against the root of the named file.
-    ensures proved { IfSome (S.contents (S.kept shelf.old)) (λ files. result.0 ≡ 0 →
-        PrintsProofOf (command_of (map (λ word. string_bytes word) words.now)) files (O.written out.old) (O.written out.new)) }
+    ensures front { PrintsFront (command_in words.now) (S.contents (S.kept shelf.old)) (I.left input.old) (O.written out.old) (O.written out.new) }
+    // At status 0 a block that is shown is the file's, and proved, or marked as unproved; and the blocks of a checked file are all proved.
+    ensures proved { result.0 ≡ 0 → IfSome (S.contents (S.kept shelf.old)) (λ files. Prints (O.written out.old) (O.written out.new) (Shows (command_in words.now) files)) }
+    // Whatever the shelf tells: a path leads from a block that is shown to a root.
+    ensures vouched { result.0 ≡ 0 → Prints (O.written out.old) (O.written out.new) (Vouches (command_in words.now)) }
 
-    ensures fault { result.0 ≡ 5 →
-        Rose (S.faults shelf.old) (S.faults shelf.new) ⊎ Rose (I.faults input.old) (I.faults input.new) ⊎ Rose (O.faults out.old) (O.faults out.new) }
+    // Each status but 6 has its cause, and a count of faults that grew is told.
+    ensures status { result.0 ≤ 7 }
+    ensures words { WordsAreTold (command_in words.now) result.0 }
+    ensures fault { result.0 ≡ 5 → Rose (O.faults out.old) (O.faults out.new)
+        ⊎ HasFailed (command_in words.now) (S.faults shelf.old) (S.faults shelf.new) (I.faults input.old) (I.faults input.new) }
     ensures shelf_told { IsTold (S.faults shelf.old) (S.faults shelf.new) result.0 }
     ensures input_told { IsTold (I.faults input.old) (I.faults input.new) result.0 }
     ensures out_told { IsTold (O.faults out.old) (O.faults out.new) result.0 }
-    ensures words { WordsAreTold (command_of (map (λ word. string_bytes word) words.now)) result.0 }
+
+    // The input is taken by a make of a signed file alone, no more of it than a blob may be, and before anything is done on the shelf.
+    ensures input_kept { reads_input (command_in words.now) ≡ false →
+        KeepsInput (I.left input.old) (I.left input.new) (I.ended input.old) (I.ended input.new) (I.faults input.old) (I.faults input.new) }
+    ensures took { TakesFront most_taken (I.left input.old) (I.left input.new) }
+    ensures early { I.faults input.old < I.faults input.new → S.kept shelf.new ≡ S.kept shelf.old }
 
     // A command that only reads leaves the shelf as it was, and so does a make that is refused or finds no memory.
-    ensures kept { KeepsUnlessMade (command_of (map (λ word. string_bytes word) words.now)) (S.kept shelf.old) (S.kept shelf.new) }
+    ensures kept { KeepsShelf (command_in words.now) (S.kept shelf.old) (S.kept shelf.new) }
     ensures unless_done { result.0 ≢ 0 → result.0 ≢ 5 → S.kept shelf.new ≡ S.kept shelf.old }
-    // A crash at any moment leaves of a make's file none, or bytes that are refused, or all of it, and of all others what they were.
-    ensures moments { IfSome (S.log (S.kept shelf.old)) (λ before. IfSome (S.log (S.kept shelf.new)) (λ after. IfSome (I.left input.old) (λ given.
-        Leaves (command_of (map (λ word. string_bytes word) words.now)) given before after))) }
+    // A make changes no other name, and none that is there.
+    ensures others { IfLogs (S.log (S.kept shelf.old)) (S.log (S.kept shelf.new)) (ChangesOnly (command_in words.now)) }
+    // A crash at any moment leaves of a make's file none, or bytes that are refused, or all of it.
+    ensures moments { IfSome (given_to (command_in words.now) (I.left input.old)) (λ given. IfLogs (S.log (S.kept shelf.old)) (S.log (S.kept shelf.new)) (LeavesFiles (command_in words.now) given)) }
     // What is told as made stands whole, and no crash changes it.
-    ensures made { IfSome (S.log (S.kept shelf.new)) (λ after. IfSome (I.left input.old) (λ given.
-        result.0 ≡ 0 → Made (command_of (map (λ word. string_bytes word) words.now)) given after)) }
+    ensures made { result.0 ≡ 0 → IfSome (given_to (command_in words.now) (I.left input.old)) (λ given. IfSome (S.log (S.kept shelf.new)) (Made (command_in words.now) given)) }
     ensures back { NoneOut (S.out shelf.new) }
 {
     match answer(alloc, words, shelf, input) {
         Ok(outcome) => finish(outcome, out),
-        Err(LendFault::Failed) => Status::FAULT,
-        Err(LendFault::OutOfMemory) => Status::OUT_OF_MEMORY,
+        Err(Stop::Fault) => Status::FAULT,
+        Err(Stop::OutOfMemory) => Status::OUT_OF_MEMORY,
     }
 }
 

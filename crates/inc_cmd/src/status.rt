@@ -9,11 +9,11 @@ impl Status {
     pub const DONE: Status = Status(0);
     /// The words fit no command.
     pub const BAD_WORDS: Status = Status(1);
-    /// The named file is missing or refused.
+    /// The named file is missing, refused or there already.
     pub const REFUSED: Status = Status(3);
-    /// A block can't be shown.
+    /// A block can't be shown, or a check found one.
     pub const NOT_SHOWN: Status = Status(4);
-    /// The shelf, a file or the output failed.
+    /// The shelf, a file, the input or the output failed.
     pub const FAULT: Status = Status(5);
     /// An allocation was refused.
     pub const OUT_OF_MEMORY: Status = Status(6);

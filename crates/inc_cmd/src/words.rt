@@ -1,29 +1,33 @@
-ghost use Rattle.std.specs.Prelude.{◌≡◌, ◌<◌, ◌-◌, ◌^◌, map, bytes_eq};
-ghost use Rattle.std.specs.Str.{all_ascii_digits};
+ghost use Rattle.std.specs.Prelude.{◌≡◌, ◌<◌, map, bytes_eq};
 ghost use Rattle.std.specs.String.{string_bytes};
 ghost use Rattle.inc_cmd.specs.Parsing.{Reads, ReadsRoot};
-ghost use Rattle.inc_cmd.specs.Words.{check_name, check_word, command_of, id_word, inspect_end, inspect_name, inspect_word, is_number, make_id, make_name, make_size, make_word, number_of, read_index, read_name, read_word, root_of, root_value, root_word, root_words};
+ghost use Rattle.inc_cmd.specs.Words.{check_name, check_word, command_of, inspect_end, inspect_name, inspect_word, make_after, make_id, make_last, make_name, make_size, make_word, read_after, read_index, read_last, read_name, read_word, root_value, root_word, root_words, unproved_word, unsigned_word};
 ghost use Rattle.inc_cmd.specs.declared.words.WordsFault.TheVariants.{OutOfMemory as out_of_memory};
 
-use inc_bytes::{Digest32, Id};
+mod values;
+
+use inc_bytes::Id;
 use inc_io::Name;
+use inc_tree::Digest32;
 use std::alloc::{AllocError, Global};
-use uuid::Uuid;
+use values::{id_of, index_of, root_of, size_of};
 
 /// A command as its words name it.
 #[derive(Drop)]
 pub enum Command {
-    /// Make a new file for a content of so many bytes, from the signature blob in the input.
+    /// Make a new file for a content of so many bytes: without a signature, or from the signature blob in the input.
     Make {
         name: Name,
         size: u64,
         id: Id,
+        unsigned: bool,
     },
-    /// Print a data block, where the file has this root.
+    /// Print a data block, where the file has this root. Of a file without a signature a block is printed only where it is taken unproved.
     Read {
         name: Name,
         index: u32,
         root: Option<Digest32>,
+        unproved: bool,
     },
     /// Check each data block, where the file has this root.
     Check {
@@ -103,14 +107,44 @@ fn parse_id(name: Name, size: u64, words: &[String]) -> Result<Command, WordsFau
 {
     match words {
         [] => Err(WordsFault::Bad { at: 3 }),
-        [word] => match id_of(word.as_str()) {
-            Some(id) => Ok(Command::Make { name, size, id }),
+        [word, rest @ ..] => match id_of(word.as_str()) {
+            Some(id) => parse_unsigned(name, size, id, rest),
             None => Err(WordsFault::Bad { at: 3 }),
         },
-        [word, _, ..] => match id_of(word.as_str()) {
-            Some(_) => Err(WordsFault::Bad { at: 4 }),
-            None => Err(WordsFault::Bad { at: 3 }),
-        },
+    }
+}
+
+fn parse_unsigned(name: Name, size: u64, id: Id, words: &[String]) -> Result<Command, WordsFault>
+    ensures value { Reads (make_after name size id (map (λ word. string_bytes word) words.now)) result }
+{
+    match words {
+        [] => Ok(Command::Make {
+            name,
+            size,
+            id,
+            unsigned: false,
+        }),
+        [word, rest @ ..] => {
+            if is_unsigned(word.as_str()) {
+                parse_make_end(name, size, id, rest)
+            } else {
+                Err(WordsFault::Bad { at: 4 })
+            }
+        }
+    }
+}
+
+fn parse_make_end(name: Name, size: u64, id: Id, words: &[String]) -> Result<Command, WordsFault>
+    ensures value { Reads (make_last name size id (map (λ word. string_bytes word) words.now)) result }
+{
+    match words {
+        [] => Ok(Command::Make {
+            name,
+            size,
+            id,
+            unsigned: true,
+        }),
+        [_, ..] => Err(WordsFault::Bad { at: 5 }),
     }
 }
 
@@ -132,12 +166,51 @@ fn parse_index(name: Name, words: &[String]) -> Result<Command, WordsFault>
     match words {
         [] => Err(WordsFault::Bad { at: 2 }),
         [word, rest @ ..] => match index_of(word.as_str()) {
-            Some(index) => {
-                let root = parse_root(rest, 3)?;
-                Ok(Command::Read { name, index, root })
-            }
+            Some(index) => parse_read_after(name, index, rest),
             None => Err(WordsFault::Bad { at: 2 }),
         },
+    }
+}
+
+fn parse_read_after(name: Name, index: u32, words: &[String]) -> Result<Command, WordsFault>
+    ensures value { Reads (read_after name index (map (λ word. string_bytes word) words.now)) result }
+{
+    match words {
+        [] => Ok(Command::Read {
+            name,
+            index,
+            root: None,
+            unproved: false,
+        }),
+        [word, rest @ ..] => {
+            if is_root(word.as_str()) {
+                let root = parse_root_value(rest, 4)?;
+                Ok(Command::Read {
+                    name,
+                    index,
+                    root,
+                    unproved: false,
+                })
+            } else if is_unproved(word.as_str()) {
+                parse_read_end(name, index, rest)
+            } else {
+                Err(WordsFault::Bad { at: 3 })
+            }
+        }
+    }
+}
+
+fn parse_read_end(name: Name, index: u32, words: &[String]) -> Result<Command, WordsFault>
+    ensures value { Reads (read_last name index (map (λ word. string_bytes word) words.now)) result }
+{
+    match words {
+        [] => Ok(Command::Read {
+            name,
+            index,
+            root: None,
+            unproved: true,
+        }),
+        [_, ..] => Err(WordsFault::Bad { at: 4 }),
     }
 }
 
@@ -246,68 +319,16 @@ fn is_root(word: &str) -> bool
     word == "--root"
 }
 
-/// The id that a word spells.
-#[tactic(auto, unfolding(crate::specs::Words::id_word))]
-fn id_of(word: &str) -> Option<Id>
-    ensures value { result ≡ id_word word.now }
+#[tactic(auto, unfolding(crate::specs::Words::unsigned_word))]
+fn is_unsigned(word: &str) -> bool
+    ensures value { result ≡ bytes_eq word.now unsigned_word }
 {
-    match Uuid::parse_str(word) {
-        Ok(id) => Some(id.into_bytes()),
-        Err(_) => None,
-    }
+    word == "--unsigned"
 }
 
-/// The root that 64 hex digits spell.
-fn root_of(word: &str) -> Option<Digest32>
-    ensures value { result ≡ root_of word.now }
+#[tactic(auto, unfolding(crate::specs::Words::unproved_word))]
+fn is_unproved(word: &str) -> bool
+    ensures value { result ≡ bytes_eq word.now unproved_word }
 {
-    let mut root = [0; 32];
-    match hex::decode_to_slice(word, &mut root) {
-        Ok(()) => Some(root),
-        Err(_) => None,
-    }
-}
-
-/// The number that a word is, where it is one and fits.
-#[tactic(auto, using(crate::proofs::NumberLemmas::parsed, crate::proofs::NumberLemmas::not_a_number))]
-fn index_of(word: &str) -> Option<u32>
-    ensures value { result ≡ number_of (2 ^ 32 - 1) word.now }
-{
-    if !is_number(word.as_bytes()) {
-        return None;
-    }
-    word.parse::<u32>().ok()
-}
-
-/// The same for a number of 64 bits.
-#[tactic(auto, using(crate::proofs::NumberLemmas::parsed_size, crate::proofs::NumberLemmas::not_a_number))]
-fn size_of(word: &str) -> Option<u64>
-    ensures value { result ≡ number_of (2 ^ 64 - 1) word.now }
-{
-    if !is_number(word.as_bytes()) {
-        return None;
-    }
-    word.parse::<u64>().ok()
-}
-
-fn is_number(word: &[u8]) -> bool
-    ensures value { result ≡ is_number word.now }
-{
-    let some = word.len() >= 1;
-    let short = word.len() <= 20;
-    let digits = are_digits(word);
-    some & short & digits
-}
-
-fn are_digits(word: &[u8]) -> bool
-    ensures value { result ≡ all_ascii_digits word.now }
-{
-    let mut rest = word;
-    while let [digit, after @ ..] = rest {
-        if !digit.is_ascii_digit() {
-            return false;
-        }
-        rest = after;
-    }
-    true
+    word == "--unproved"
 }

@@ -45,10 +45,10 @@ pub record IsRecorded (history : HistoryInside) : Type 0 where
   pub ends : history_of history.first history.state history.calls.items ≡ history.state ∷ past
 
 -- the calls from this one on fail
-abbrev pub is_past : Option ℕ → ℕ → Bool
-is_past None made = false
-is_past (Some limit) made = nat_le limit made
+abbrev pub is_past_limit : Option ℕ → ℕ → Bool
+is_past_limit None made = false
+is_past_limit (Some limit) made = nat_le limit made
 
 -- whether the next call is to fail
 abbrev pub is_to_fail : Plan → Bool
-is_to_fail plan = list_any (λ number. number == plan.made) plan.failing.items || is_past plan.limit plan.made
+is_to_fail plan = list_any (λ number. number == plan.made) plan.failing.items || is_past_limit plan.limit plan.made

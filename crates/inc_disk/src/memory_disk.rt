@@ -7,7 +7,7 @@ use crate::history::{Call, History};
 use crate::plan::Plan;
 use crate::state::State;
 use crate::{Disk, OutOfMemory};
-use inc_io::{Backing, Bytes, Failed};
+use inc_io::{Backing, Bytes, Failed, copy_part};
 use std::alloc::Global;
 
 /// A disk in memory, for tests. It keeps a record of all its writes and syncs, so the images of every moment are known.
@@ -119,13 +119,6 @@ impl MemDisk {
         self.plan.made
     }
 
-    /// How often a call has failed.
-    pub fn faults(&self) -> u64
-        ensures value { result ≡ self.now.plan.faults }
-    {
-        self.plan.faults
-    }
-
     /// Makes the disk fail past so many further calls.
     pub fn allow(&mut self, further: u32)
         ensures limit { self.new.plan.limit ≡ Some (min (self.old.plan.made + further) (2 ^ 32 - 1)) }
@@ -148,6 +141,10 @@ impl Backing for MemDisk {
 
     ghost faults = { λ disk. disk.plan.faults };
 
+    fn fault_count(&self) -> u64 {
+        self.plan.faults
+    }
+
     fn len(&mut self) -> Result<u64, Failed>
         ensures told { IfSome (reads_of self.old.history) (λ bytes. IfOk result (λ len. len ≡ length bytes)) }
         ensures kept { self.new.history ≡ self.old.history }
@@ -156,6 +153,8 @@ impl Backing for MemDisk {
         // It fails exactly at the calls that are to fail.
         ensures fails { is_err result ≡ is_to_fail self.old.plan }
         ensures counted { self.new.plan.made ≡ min (self.old.plan.made + 1) (2 ^ 32 - 1) }
+        ensures same_failing { self.new.plan.failing.items ≡ self.old.plan.failing.items }
+        ensures same_limits { (self.new.plan.limit ≡ self.old.plan.limit) × (self.new.room ≡ self.old.room) }
     {
         if self.plan.call() {
             return Err(self.plan.fault());
@@ -172,11 +171,13 @@ impl Backing for MemDisk {
         ensures cause { HasCause self.old.plan.faults self.new.plan.faults result }
         ensures fails { is_err result ≡ is_to_fail self.old.plan }
         ensures counted { self.new.plan.made ≡ min (self.old.plan.made + 1) (2 ^ 32 - 1) }
+        ensures same_failing { self.new.plan.failing.items ≡ self.old.plan.failing.items }
+        ensures same_limits { (self.new.plan.limit ≡ self.old.plan.limit) × (self.new.room ≡ self.old.room) }
     {
         if self.plan.call() {
             return Err(self.plan.fault());
         }
-        Ok(copy_from(self.bytes(), at, room))
+        Ok(copy_part(self.bytes(), at, room))
     }
 }
 
@@ -199,6 +200,8 @@ impl Disk for MemDisk {
         // Else it fails only where its record finds no memory, and then writes nothing.
         ensures untouched { is_to_fail self.old.plan ≡ false → at + length piece.now ≤ self.old.room → OnErr result (self.new.history ≡ self.old.history) }
         ensures counted { self.new.plan.made ≡ min (self.old.plan.made + 1) (2 ^ 32 - 1) }
+        ensures same_failing { self.new.plan.failing.items ≡ self.old.plan.failing.items }
+        ensures same_limits { (self.new.plan.limit ≡ self.old.plan.limit) × (self.new.room ≡ self.old.room) }
     {
         let planned = self.plan.call();
         let full = self.room < at + piece.len() as u64;
@@ -218,6 +221,8 @@ impl Disk for MemDisk {
         ensures planned { IsTrue (is_to_fail self.old.plan) → is_err result ≡ true }
         ensures untouched { is_to_fail self.old.plan ≡ false → OnErr result (self.new.history ≡ self.old.history) }
         ensures counted { self.new.plan.made ≡ min (self.old.plan.made + 1) (2 ^ 32 - 1) }
+        ensures same_failing { self.new.plan.failing.items ≡ self.old.plan.failing.items }
+        ensures same_limits { (self.new.plan.limit ≡ self.old.plan.limit) × (self.new.room ≡ self.old.room) }
     {
         if self.plan.call() {
             let _ = self.history.fail_sync();
@@ -241,17 +246,4 @@ fn tear(history: &mut History, room: u64, at: u64, piece: &[u8])
     let left = room.saturating_sub(at);
     let half = ((piece.len() / 2) as u64).min(left) as usize;
     let _ = history.write(at, piece.len(), &piece[..half]);
-}
-
-/// Fills the front of the room with the bytes from a place on, and says how many these are.
-fn copy_from(bytes: &[u8], at: u64, room: &mut [u8]) -> usize
-    ensures count { result ≡ min (length room.old) (length bytes.now - at) }
-    ensures filled { room.new ≡ take result (drop at bytes.now) ++ drop result room.old }
-    ensures within { result ≤ length room.old }
-{
-    let from = at.min(bytes.len() as u64) as usize;
-    let rest = &bytes[from..];
-    let count = rest.len().min(room.len());
-    room[..count].copy_from_slice(&rest[..count]);
-    count
 }

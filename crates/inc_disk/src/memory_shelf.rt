@@ -19,7 +19,7 @@ use crate::plan::Plan;
 use crate::shelf_log::ShelfLog;
 use crate::state::State;
 use crate::{MemDisk, OutOfMemory, Shelf};
-use inc_io::{Bytes, LendFault, Name, NameList, ReadShelf, Schedule};
+use inc_io::{Backing, Bytes, LendFault, Name, NameList, ReadShelf, Schedule};
 use std::alloc::Global;
 
 /// A shelf in memory, for tests. It lends copies, so its files stay while they are out.
@@ -244,7 +244,7 @@ impl ReadShelf for MemShelf {
         ensures same_made { self.new.schedule.made ≡ self.old.schedule.made }
         ensures same_limits { (self.new.room ≡ self.old.room) × (self.new.calls ≡ self.old.calls) }
     {
-        let _ = self.take_back(name, file.faults());
+        let _ = self.take_back(name, file.fault_count());
     }
 }
 
@@ -304,7 +304,7 @@ impl Shelf for MemShelf {
         ensures same_made { self.new.schedule.made ≡ self.old.schedule.made }
         ensures same_limits { (self.new.room ≡ self.old.room) × (self.new.calls ≡ self.old.calls) }
     {
-        let faults = disk.faults();
+        let faults = disk.fault_count();
         let history = disk.into_history();
         let Some(name) = self.take_back(name, faults) else {
             unreachable!()

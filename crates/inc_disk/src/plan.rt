@@ -1,6 +1,6 @@
 ghost use Rattle.std.specs.Prelude.{◌≡◌, ◌+◌, ◌-◌, ◌^◌, ◌≤◌, min};
 ghost use Rattle.inc_io.specs.Causes.{Rose};
-ghost use Rattle.inc_disk.specs.Memory.{is_to_fail, is_past};
+ghost use Rattle.inc_disk.specs.Memory.{is_to_fail, is_past_limit};
 
 use inc_io::Failed;
 
@@ -38,7 +38,7 @@ impl Plan {
         ensures faults { self.new.faults ≡ self.old.faults }
     {
         let listed = self.failing.contains(&u64::from(self.made));
-        let past = is_past(self.limit, self.made);
+        let past = is_past_limit(self.limit, self.made);
         self.made = self.made.saturating_add(1);
         listed | past
     }
@@ -56,8 +56,8 @@ impl Plan {
     }
 }
 
-fn is_past(limit: Option<u32>, made: u32) -> bool
-    ensures value { result ≡ is_past limit made }
+fn is_past_limit(limit: Option<u32>, made: u32) -> bool
+    ensures value { result ≡ is_past_limit limit made }
 {
     match limit {
         Some(limit) => limit <= made,

@@ -2,7 +2,7 @@
 use Rattle.std.proofs.Common.{◌≡◌, ℕ, Bool, true, false, ◌&&◌, [], ◌∷◌, refl, ap, ◌∙◌}
 use Rattle.std.proofs.lemmas.List.Folds.{list_all-append}
 use Rattle.inc_bytes.specs.declared.span.Span.{Span}
-use Rattle.inc_entry.specs.Clear.{misses, is_clear}
+use Rattle.inc_entry.specs.Spans.{misses, is_clear}
 use Rattle.inc_entry.specs.Entry.{Places, areas_of, map_span, tree_span}
 
 and_end : (a b : Bool) → a && (b && true) ≡ a && b

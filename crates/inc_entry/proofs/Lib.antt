@@ -1,2 +1,4 @@
 pub mod AreaLists
+pub mod BlockLemmas
 pub mod Rows
+pub mod SpanLemmas

@@ -1,3 +1,5 @@
-pub mod Clear
 pub mod Entry
+pub mod Keeps
+pub mod Spans
+pub mod Stored
 pub mod Table

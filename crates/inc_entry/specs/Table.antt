@@ -4,17 +4,17 @@ use Rattle.inc_tree.specs.Geometry.{data_blocks, block_len}
 use Rattle.inc_entry.specs.declared.classes.Class.{Class}
 use Rattle.inc_entry.specs.declared.classes.Class.TheVariants.{Closed, OpenAt, Compressed, Damaged}
 use Rattle.inc_entry.specs.declared.entry.Entry.{Entry}
-use Rattle.inc_entry.specs.Clear.{IsClear}
-use Rattle.inc_entry.specs.Entry.{Places, areas_of, hash_place, entry_size, compression}
+use Rattle.inc_entry.specs.Spans.{IsClear}
+use Rattle.inc_entry.specs.Entry.{Places, areas_of, block_bytes, hash_place, entry_size, compression}
 
 -- its bytes lie inside the file where a block of this index may lie
 pub record IsOpenEntry (places : Places) (len i : ℕ) (e : Entry) : Type 0 where
   pub flags : e.flags ≡ 0
-  pub sized : (entry_size e ≡ 4096) ⊎ (entry_size e ≡ block_len places.size i)
+  pub sized : (entry_size e ≡ block_bytes) ⊎ (entry_size e ≡ block_len places.shape i)
   pub offset : 0 < e.offset
   pub inside : e.offset + entry_size e ≤ len
-  pub of_content : i < data_blocks places.size → IsClear (areas_of places) e.offset (entry_size e)
-  pub of_tree : data_blocks places.size ≤ i → e.offset ≡ hash_place places i
+  pub of_content : i < data_blocks places.shape → IsClear (areas_of places) e.offset (entry_size e)
+  pub of_tree : data_blocks places.shape ≤ i → e.offset ≡ hash_place places i
 
 pub record IsCompressedEntry (e : Entry) : Type 0 where
   pub compressed : 0 < compression e
@@ -25,8 +25,8 @@ pub record IsCompressedEntry (e : Entry) : Type 0 where
 pub record IsClosedEntry (places : Places) (i : ℕ) (e : Entry) : Type 0 where
   pub flags : e.flags ≡ 0
   pub low : e.low ≡ 0
-  pub whole : entry_size e ≢ 4096
-  pub own : entry_size e ≢ block_len places.size i
+  pub whole : entry_size e ≢ block_bytes
+  pub own : entry_size e ≢ block_len places.shape i
 
 -- in none of the other rows
 pub record IsDamagedEntry (places : Places) (len i : ℕ) (e : Entry) : Type 0 where

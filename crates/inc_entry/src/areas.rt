@@ -1,6 +1,6 @@
 ghost use Rattle.std.specs.Prelude.{◌≡◌, ◌+◌, ◌*◌, ◌<◌, ◌^◌};
 ghost use Rattle.inc_tree.specs.Geometry.{data_blocks, hash_blocks};
-ghost use Rattle.inc_entry.specs.Entry.{places_of, entries, map_span, tree_span, entry_at, fits, has_size};
+ghost use Rattle.inc_entry.specs.Entry.{area_places, entries, map_span, tree_span, entry_at, fits, has_size, hash_block_place};
 
 use crate::is_clear;
 use inc_bytes::{Span, SpanList};
@@ -26,7 +26,7 @@ pub struct Areas {
 impl Areas {
     /// The bytes of the block map.
     pub fn map_span(&self) -> Span
-        ensures value { result ≡ map_span (places_of self.now) }
+        ensures value { result ≡ map_span (area_places self.now) }
     {
         Span {
             at: self.map_at,
@@ -37,11 +37,20 @@ impl Areas {
 
     /// The bytes of the hash tree.
     pub fn tree_span(&self) -> Span
-        ensures value { result ≡ tree_span (places_of self.now) }
+        ensures value { result ≡ tree_span (area_places self.now) }
     {
         Span {
             at: self.hash_at,
             len: BLOCK_SIZE as u64 * self.geometry.hash_blocks() as u64,
         }
+    }
+
+    /// The place of a hash block: those stand in the tree, one after the other, the top level first.
+    pub fn hash_block_at(&self, hash: u32) -> u64
+        requires here { hash < hash_blocks self.now.geometry }
+        requires end { self.now.hash_at + 4096 * hash_blocks self.now.geometry < 2 ^ 64 }
+        ensures value { result ≡ hash_block_place (area_places self.now) hash }
+    {
+        self.hash_at + BLOCK_SIZE as u64 * hash as u64
     }
 }

@@ -1,7 +1,7 @@
 ghost use Rattle.std.specs.Prelude.{◌≡◌, ◌+◌, ◌<◌, ◌≤◌, ◌^◌, ◌*◌, nat_le};
 ghost use Rattle.inc_bytes.specs.Fields.{le_bytes};
-ghost use Rattle.inc_entry.specs.Clear.{is_clear, misses};
-ghost use Rattle.inc_entry.specs.Entry.{entry_of, entry_size};
+ghost use Rattle.inc_entry.specs.Spans.{is_clear, misses};
+ghost use Rattle.inc_entry.specs.Entry.{entry_from, entry_size};
 
 use inc_bytes::{Span, put_u48};
 
@@ -22,9 +22,9 @@ impl Entry {
     }
 }
 
-#[tactic(auto, unfolding(crate::specs::Entry::entry_of))]
+#[tactic(auto, unfolding(crate::specs::Entry::entry_from))]
 pub fn entry_in(b: &[u8; 10]) -> Entry
-    ensures value { result ≡ entry_of b.now 0 }
+    ensures value { result ≡ entry_from b.now 0 }
     ensures low { result.offset < 2 ^ 48 }
 {
     Entry {
@@ -60,7 +60,7 @@ pub fn is_clear(spans: &[Span], at: u64, len: u64) -> bool
 }
 
 /// Whether a range has no byte of a span.
-#[tactic(auto, unfolding(crate::specs::Clear::misses))]
+#[tactic(auto, unfolding(crate::specs::Spans::misses))]
 pub fn misses(span: Span, at: u64, len: u64) -> bool
     ensures value { result ≡ misses span at len }
 {

@@ -1,6 +1,6 @@
 ghost use Rattle.std.specs.Prelude.{◌≡◌, ◌+◌, ◌-◌, ◌*◌, ◌<◌, ◌≤◌, ◌^◌, ◌==◌, nat_le, length};
 ghost use Rattle.inc_tree.specs.Geometry.{data_blocks, hash_blocks};
-ghost use Rattle.inc_entry.specs.Entry.{places_of, entries, hash_place, fits, has_size, asks, is_open, past_end, is_compressed, is_closed, class_of, entry_of, entry_size, entry_at};
+ghost use Rattle.inc_entry.specs.Entry.{area_places, entries, hash_place, fits, has_size, asks, is_open, past_end, is_compressed, is_closed, class_of, entry_from, entry_size, entry_at};
 ghost use Rattle.inc_entry.specs.Table.{IsClass};
 
 use crate::areas::ENTRY_SIZE;
@@ -13,29 +13,29 @@ const COMPRESSION_BITS: u16 = 7;
 
 /// The place of an entry in the file.
 pub fn entry_at(areas: &Areas, index: u32) -> u64
-    requires here { index < entries (places_of areas.now) }
-    requires end { areas.now.map_at + 10 * entries (places_of areas.now) < 2 ^ 64 }
-    ensures value { result ≡ entry_at (places_of areas.now) index }
+    requires here { index < entries (area_places areas.now) }
+    requires end { areas.now.map_at + 10 * entries (area_places areas.now) < 2 ^ 64 }
+    ensures value { result ≡ entry_at (area_places areas.now) index }
 {
     areas.map_at + ENTRY_SIZE * index as u64
 }
 
 /// The class of the entry of this index. It takes no memory.
 pub fn class(entry: &[u8; 10], areas: &Areas, index: u32) -> Class
-    requires { index < entries (places_of areas.now) }
+    requires { index < entries (area_places areas.now) }
     // The answer is computed so.
-    ensures value { result ≡ class_of (places_of areas.now) areas.now.len index (entry_of entry.now 0) }
+    ensures value { result ≡ class_of (area_places areas.now) areas.now.len index (entry_from entry.now 0) }
     // In words it is the row of the table that the entry is in.
-    ensures row { IsClass (places_of areas.now) areas.now.len index (entry_of entry.now 0) result }
+    ensures row { IsClass (area_places areas.now) areas.now.len index (entry_from entry.now 0) result }
 {
     judged(&entry_in(entry), areas, index)
 }
 
 #[tactic(auto, unfolding(crate::specs::Entry::class_of))]
 fn judged(entry: &Entry, areas: &Areas, index: u32) -> Class
-    requires here { index < entries (places_of areas.now) }
+    requires here { index < entries (area_places areas.now) }
     requires low { entry.now.offset < 2 ^ 48 }
-    ensures value { result ≡ class_of (places_of areas.now) areas.now.len index entry.now }
+    ensures value { result ≡ class_of (area_places areas.now) areas.now.len index entry.now }
 {
     if is_open(entry, areas, index) {
         return Class::OpenAt {
@@ -56,8 +56,8 @@ fn judged(entry: &Entry, areas: &Areas, index: u32) -> Class
 /// longer file.
 #[tactic(auto, unfolding(crate::specs::Entry::past_end))]
 pub fn is_past_end(entry: &[u8; 10], areas: &Areas, index: u32) -> bool
-    requires { index < entries (places_of areas.now) }
-    ensures value { result ≡ past_end (places_of areas.now) areas.now.len index (entry_of entry.now 0) }
+    requires { index < entries (area_places areas.now) }
+    ensures value { result ≡ past_end (area_places areas.now) areas.now.len index (entry_from entry.now 0) }
 {
     let entry = entry_in(entry);
     let asks = asks(&entry, areas, index);
@@ -67,9 +67,9 @@ pub fn is_past_end(entry: &[u8; 10], areas: &Areas, index: u32) -> bool
 
 #[tactic(auto, unfolding(crate::specs::Entry::is_open))]
 fn is_open(entry: &Entry, areas: &Areas, index: u32) -> bool
-    requires here { index < entries (places_of areas.now) }
+    requires here { index < entries (area_places areas.now) }
     requires low { entry.now.offset < 2 ^ 48 }
-    ensures value { result ≡ is_open (places_of areas.now) areas.now.len index entry.now }
+    ensures value { result ≡ is_open (area_places areas.now) areas.now.len index entry.now }
 {
     let asks = asks(entry, areas, index);
     let size = entry.size() as u64;
@@ -80,8 +80,8 @@ fn is_open(entry: &Entry, areas: &Areas, index: u32) -> bool
 
 #[tactic(auto, unfolding(crate::specs::Entry::asks))]
 fn asks(entry: &Entry, areas: &Areas, index: u32) -> bool
-    requires here { index < entries (places_of areas.now) }
-    ensures value { result ≡ asks (places_of areas.now) index entry.now }
+    requires here { index < entries (area_places areas.now) }
+    ensures value { result ≡ asks (area_places areas.now) index entry.now }
 {
     let plain = entry.flags == 0;
     let sized = has_size(areas, index, entry.size());
@@ -101,8 +101,8 @@ fn is_compressed(entry: &Entry) -> bool
 
 #[tactic(auto, unfolding(crate::specs::Entry::is_closed))]
 fn is_closed(entry: &Entry, areas: &Areas, index: u32) -> bool
-    requires here { index < entries (places_of areas.now) }
-    ensures value { result ≡ is_closed (places_of areas.now) index entry.now }
+    requires here { index < entries (area_places areas.now) }
+    ensures value { result ≡ is_closed (area_places areas.now) index entry.now }
 {
     let plain = entry.flags == 0;
     let low = entry.low == 0;
@@ -113,8 +113,8 @@ fn is_closed(entry: &Entry, areas: &Areas, index: u32) -> bool
 /// Whether a size is that of a whole block or of this one.
 #[tactic(auto, unfolding(crate::specs::Entry::has_size))]
 fn has_size(areas: &Areas, index: u32, size: u32) -> bool
-    requires here { index < entries (places_of areas.now) }
-    ensures value { result ≡ has_size (places_of areas.now) index size }
+    requires here { index < entries (area_places areas.now) }
+    ensures value { result ≡ has_size (area_places areas.now) index size }
 {
     let whole = size == BLOCK_SIZE as u32;
     let own = size == areas.geometry.block_len(index);
@@ -125,8 +125,8 @@ fn has_size(areas: &Areas, index: u32, size: u32) -> bool
 /// tree.
 #[tactic(auto, unfolding(crate::specs::Entry::fits), using(crate::proofs::AreaLists::clear_of_areas))]
 fn fits(areas: &Areas, index: u32, at: u64, len: u64) -> bool
-    requires here { index < entries (places_of areas.now) }
-    ensures value { result ≡ fits (places_of areas.now) index at len }
+    requires here { index < entries (area_places areas.now) }
+    ensures value { result ≡ fits (area_places areas.now) index at len }
 {
     if index >= areas.geometry.data_blocks() {
         return is_hash_place(areas, index, at);
@@ -140,7 +140,7 @@ fn fits(areas: &Areas, index: u32, at: u64, len: u64) -> bool
 /// Whether the hash block of this index has its place here.
 fn is_hash_place(areas: &Areas, index: u32, at: u64) -> bool
     requires { data_blocks areas.now.geometry ≤ index }
-    ensures value { result ≡ (at == hash_place (places_of areas.now) index) }
+    ensures value { result ≡ (at == hash_place (area_places areas.now) index) }
 {
     let before = BLOCK_SIZE as u64 * (index - areas.geometry.data_blocks()) as u64;
     at >= areas.hash_at && at - areas.hash_at == before

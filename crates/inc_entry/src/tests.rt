@@ -40,113 +40,63 @@ fn judged(rt: &impl Abort, areas: &Areas, index: u32, offset: u32, size: u16, fl
     class(&entry(offset, size, flags), areas, index)
 }
 
+/// A block that is there.
+fn open(place: u64, len: u32) -> Class {
+    Class::OpenAt { place, len }
+}
+
 #[test]
-fn entries_are_classed_by_the_table(rt: HostRuntime) -> Result<(), Fail> {
+fn an_open_entry_names_a_block_apart_from_everything_else(rt: HostRuntime) -> Result<(), Fail> {
     let areas = areas(rt.alloc())?;
-    for (index, offset, size, flags, wanted) in [
-        (0, 0, 0, 0, Class::Closed),
-        // A gate that was torn: the high byte of the size is there, and makes no valid size.
-        (0, 8192, 0x0500, 0, Class::Closed),
-        (
-            0,
-            8192,
-            4096,
-            0,
-            Class::OpenAt {
-                place: 8192,
-                len: 4096,
-            },
-        ),
-        // The last block's own length, up to the file's last byte and one past it.
-        (
-            1,
-            12288,
-            904,
-            0,
-            Class::OpenAt {
-                place: 12288,
-                len: 904,
-            },
-        ),
-        (1, 12289, 904, 0, Class::Damaged),
-        (0, 12288, 904, 0, Class::Damaged),
-        (
-            0,
-            9096,
-            4096,
-            0,
-            Class::OpenAt {
-                place: 9096,
-                len: 4096,
-            },
-        ),
-        (0, 9097, 4096, 0, Class::Damaged),
-        // A good size at no place.
-        (0, 0, 4096, 0, Class::Damaged),
-        // Compression bits, and a flag that is none of them.
-        (0, 8192, 900, 1, Class::Compressed),
-        (0, 8192, 900, 4, Class::Compressed),
-        (0, 0, 900, 1, Class::Damaged),
-        (0, 8192, 0, 1, Class::Damaged),
-        (0, 8192, 4096, 8, Class::Damaged),
-        // Between map and tree, and one byte into either.
-        (
-            1,
-            280,
-            904,
-            0,
-            Class::OpenAt {
-                place: 280,
-                len: 904,
-            },
-        ),
-        (1, 279, 904, 0, Class::Damaged),
-        (
-            1,
-            3192,
-            904,
-            0,
-            Class::OpenAt {
-                place: 3192,
-                len: 904,
-            },
-        ),
-        (1, 3193, 904, 0, Class::Damaged),
-        // Over the last record.
-        (1, 192, 904, 0, Class::Damaged),
-        // A hash block has one place.
-        (
-            2,
-            4096,
-            4096,
-            0,
-            Class::OpenAt {
-                place: 4096,
-                len: 4096,
-            },
-        ),
-        (2, 4095, 4096, 0, Class::Damaged),
-        (2, 8192, 4096, 0, Class::Damaged),
-    ] {
-        assert_eq!(rt; judged(&rt, &areas, index, offset, size, flags), wanted);
-    }
+    assert_eq!(rt; judged(&rt, &areas, 0, 8192, 4096, 0), open(8192, 4096));
+    // Between map and tree, and one byte into either.
+    assert_eq!(rt; judged(&rt, &areas, 1, 280, 904, 0), open(280, 904));
+    assert_eq!(rt; judged(&rt, &areas, 1, 279, 904, 0), Class::Damaged);
+    assert_eq!(rt; judged(&rt, &areas, 1, 3193, 904, 0), Class::Damaged);
+    // Over the last record.
+    assert_eq!(rt; judged(&rt, &areas, 1, 192, 904, 0), Class::Damaged);
+    // A hash block has one place.
+    assert_eq!(rt; judged(&rt, &areas, 2, 4096, 4096, 0), open(4096, 4096));
+    assert_eq!(rt; judged(&rt, &areas, 2, 8192, 4096, 0), Class::Damaged);
     Ok(())
+}
+
+#[test]
+fn a_size_is_a_whole_blocks_or_the_blocks_own(rt: HostRuntime) -> Result<(), Fail> {
+    let areas = areas(rt.alloc())?;
+    // The last block's own length, up to the file's last byte and one past it.
+    assert_eq!(rt; judged(&rt, &areas, 1, 12288, 904, 0), open(12288, 904));
+    assert_eq!(rt; judged(&rt, &areas, 1, 12289, 904, 0), Class::Damaged);
+    assert_eq!(rt; judged(&rt, &areas, 0, 12288, 904, 0), Class::Damaged);
+    // A gate that was torn: the high byte of the size is there, and makes no valid size.
+    assert_eq!(rt; judged(&rt, &areas, 0, 8192, 0x0500, 0), Class::Closed);
+    assert_eq!(rt; judged(&rt, &areas, 0, 0, 0, 0), Class::Closed);
+    Ok(())
+}
+
+#[test]
+fn the_low_three_flags_name_a_compression(rt: HostRuntime) -> Result<(), Fail> {
+    let areas = areas(rt.alloc())?;
+    assert_eq!(rt; judged(&rt, &areas, 0, 8192, 900, 4), Class::Compressed);
+    assert_eq!(rt; judged(&rt, &areas, 0, 0, 900, 1), Class::Damaged);
+    assert_eq!(rt; judged(&rt, &areas, 0, 8192, 4096, 8), Class::Damaged);
+    Ok(())
+}
+
+/// Whether an entry of the second block names one past the end of such a file.
+fn past(rt: &impl Abort, areas: &Areas, offset: u32, size: u16, flags: u16) -> bool {
+    let entries = areas.geometry.data_blocks() + areas.geometry.hash_blocks();
+    assert!(rt; 1 < entries);
+    is_past_end(&entry(offset, size, flags), areas, 1)
 }
 
 #[test]
 fn an_entry_past_the_end_is_told_apart(rt: HostRuntime) -> Result<(), Fail> {
     let areas = areas(rt.alloc())?;
-    let entries = areas.geometry.data_blocks() + areas.geometry.hash_blocks();
-    assert!(rt; 1 < entries);
-    for (offset, size, flags, wanted) in [
-        (12288, 904, 0, false),
-        (12289, 904, 0, true),
-        (12289, 900, 0, false),
-        (12289, 904, 1, false),
-        (13192, 0, 0, false),
-    ] {
-        assert_eq!(rt; is_past_end(&entry(offset, size, flags), &areas, 1), wanted);
-    }
+    assert!(rt; !past(&rt, &areas, 12288, 904, 0));
+    assert!(rt; past(&rt, &areas, 12289, 904, 0));
+    assert!(rt; !past(&rt, &areas, 12289, 900, 0));
+    assert!(rt; !past(&rt, &areas, 12289, 904, 1));
     Ok(())
 }
 
@@ -182,16 +132,10 @@ fn areas_lie_where_the_layout_says(rt: HostRuntime) -> Result<(), Fail> {
 #[test]
 fn empty_ranges_meet_nothing(rt: HostRuntime) {
     let spans = [Span { at: 10, len: 0 }, Span { at: 20, len: 5 }];
-    for (at, len, wanted) in [
-        (5, 10, true),
-        (22, 0, true),
-        (15, 5, true),
-        (15, 6, false),
-        (25, 1, true),
-        (24, 1, false),
-        (u64::MAX, u64::MAX, true),
-        (0, u64::MAX, false),
-    ] {
-        assert_eq!(rt; is_clear(&spans, at, len), wanted);
-    }
+    assert!(rt; is_clear(&spans, 5, 10));
+    assert!(rt; is_clear(&spans, 22, 0));
+    assert!(rt; is_clear(&spans, 15, 5));
+    assert!(rt; !is_clear(&spans, 15, 6));
+    assert!(rt; !is_clear(&spans, 24, 1));
+    assert!(rt; is_clear(&spans, u64::MAX, u64::MAX));
 }

@@ -1,17 +1,16 @@
 -- The areas of a file by their bytes: no byte lies in two of them.
-use Rattle.std.proofs.Common.{◌≡◌, ◌⊎◌, inl, inr, ℕ, ◌+◌, ◌<◌, ◌≤◌, Bool, true, ◌||◌, eqb, leb, List, [], ◌∷◌, ◌++◌, refl, sym, subst, arith}
+use Rattle.std.proofs.Common.{◌≡◌, ◌⊎◌, inl, inr, ℕ, ◌+◌, ◌<◌, ◌≤◌, Bool, true, ◌&&◌, ◌||◌, eqb, leb, List, [], ◌∷◌, ◌++◌, refl, sym, subst, arith}
 use Rattle.std.specs.Prelude.{nat_le, nat_lt, All}
 use Rattle.std.proofs.lemmas.Bool.{and_parts, and_from, or_cases, eqb-true, eq-eqb, leb-true, ltb-true, lt-ltb, le-ltb, cases_lt}
 use Rattle.std.proofs.lemmas.Bool.Decides.{nat_tests}
 use Rattle.std.proofs.lemmas.List.Elements.{All-head, All-tail}
 use Rattle.inc_bytes.specs.declared.span.Span.{Span}
 use Rattle.inc_tree.specs.Geometry.{data_blocks}
-use Rattle.inc_entry.specs.Clear.{IsClear, IsDisjoint, misses, is_clear}
+use Rattle.inc_entry.specs.Spans.{IsClear, IsDisjoint, misses, is_clear}
 use Rattle.inc_entry.specs.Entry.{Places, areas_of, entries, entry_at, fits, hash_place, map_span, tree_span}
-use Rattle.inc_layout.specs.Fixed.{AreApart, IsInside}
-use Rattle.inc_layout.specs.Keeps.{IsLayout}
-use Rattle.inc_md.specs.Staying.{in_span}
-use Rattle.inc_layout.specs.SameFixed.{in_spans}
+use Rattle.inc_entry.specs.Spans.{AreApart, IsInside}
+use Rattle.inc_entry.specs.Keeps.{IsLayout}
+use Rattle.inc_entry.specs.Spans.{in_spans}
 
 abbrev pub InSpan : ℕ → Span → Type 0
 InSpan j span = (span.at ≤ j) × (j < span.at + span.len)
@@ -19,6 +18,9 @@ InSpan j span = (span.at ≤ j) × (j < span.at + span.len)
 abbrev pub InSpans : ℕ → List Span → Type 0
 InSpans j [] = ⊥
 InSpans j (span ∷ spans) = InSpan j span ⊎ InSpans j spans
+
+abbrev in_span : ℕ → Span → Bool
+in_span j span = nat_le span.at j && nat_lt j (span.at + span.len)
 
 in_span_means : (j : ℕ) (span : Span) → in_span j span ≡ true → InSpan j span
 in_span_means j span h = let parts = and_parts (nat_le span.at j) (nat_lt j (span.at + span.len)) h in (leb-true _ _ parts.0, ltb-true _ _ parts.1)
@@ -133,15 +135,15 @@ entry_inside places is_fixed len i k layout here lt = map_inside places is_fixed
 -- ---- blocks
 
 pub fits_cases : (places : Places) (i at n : ℕ) → fits places i at n ≡ true
-    → ((i < data_blocks places.size) × (is_clear (areas_of places) at n ≡ true)) ⊎ ((data_blocks places.size ≤ i) × (at ≡ hash_place places i))
+    → ((i < data_blocks places.shape) × (is_clear (areas_of places) at n ≡ true)) ⊎ ((data_blocks places.shape ≤ i) × (at ≡ hash_place places i))
 unfolding fits
 fits_cases places i at n h =
-    elim (cases_lt i (data_blocks places.size)) [
-      | inl lt ↦ inl (lt, rw (lt-ltb i (data_blocks places.size) lt) at h)
-      | inr ge ↦ inr (ge, eqb-true at (hash_place places i) (rw (le-ltb i (data_blocks places.size) ge) at h))
+    elim (cases_lt i (data_blocks places.shape)) [
+      | inl lt ↦ inl (lt, rw (lt-ltb i (data_blocks places.shape) lt) at h)
+      | inr ge ↦ inr (ge, eqb-true at (hash_place places i) (rw (le-ltb i (data_blocks places.shape) ge) at h))
     ]
 
-pub hash_in_tree : (places : Places) (i k : ℕ) → data_blocks places.size ≤ i → i < entries places → k < 4096 → InSpan (hash_place places i + k) (tree_span places)
+pub hash_in_tree : (places : Places) (i k : ℕ) → data_blocks places.shape ≤ i → i < entries places → k < 4096 → InSpan (hash_place places i + k) (tree_span places)
 hash_in_tree places i k ge here lt = (omega arith, omega arith)
 
 pub block_or_spans : (places : Places) (is_fixed : ℕ → Bool) (len i at n k : ℕ) → IsLayout places is_fixed len → i < entries places → n ≤ 4096 → fits places i at n ≡ true
@@ -165,7 +167,7 @@ block_or_map places is_fixed len i at n k layout here small fit lt there =
     ]
 
 -- a data block has no byte in the tree
-pub data_or_tree : (places : Places) (i at n k : ℕ) → i < data_blocks places.size → fits places i at n ≡ true → k < n → InSpan (at + k) (tree_span places) → ⊥
+pub data_or_tree : (places : Places) (i at n k : ℕ) → i < data_blocks places.shape → fits places i at n ≡ true → k < n → InSpan (at + k) (tree_span places) → ⊥
 data_or_tree places i at n k content fit lt there =
     elim (fits_cases places i at n fit) [
       | inl both ↦ clear_byte (areas_of places) at n (at + k) both.1 (in_later places.spans (map_and_tree places) (at + k) (inr (inl there))) (omega arith) (omega arith)
@@ -174,13 +176,13 @@ data_or_tree places i at n k content fit lt there =
 
 -- ---- the place of a new block
 
-pub end_fits : (places : Places) (is_fixed : ℕ → Bool) (len i at : ℕ) → IsLayout places is_fixed len → i < data_blocks places.size → len ≤ at → fits places i at 4096 ≡ true
+pub end_fits : (places : Places) (is_fixed : ℕ → Bool) (len i at : ℕ) → IsLayout places is_fixed len → i < data_blocks places.shape → len ≤ at → fits places i at 4096 ≡ true
 unfolding fits
-end_fits places is_fixed len i at layout content past = rw (lt-ltb i (data_blocks places.size) content) (past_clear (areas_of places) len at 4096 layout.inside past)
+end_fits places is_fixed len i at layout content past = rw (lt-ltb i (data_blocks places.shape) content) (past_clear (areas_of places) len at 4096 layout.inside past)
 
-pub hash_fits : (places : Places) (i at : ℕ) → data_blocks places.size ≤ i → at ≡ hash_place places i → fits places i at 4096 ≡ true
+pub hash_fits : (places : Places) (i at : ℕ) → data_blocks places.shape ≤ i → at ≡ hash_place places i → fits places i at 4096 ≡ true
 unfolding fits
-hash_fits places i at ge is = rw (le-ltb i (data_blocks places.size) ge) (eq-eqb at (hash_place places i) is)
+hash_fits places i at ge is = rw (le-ltb i (data_blocks places.shape) ge) (eq-eqb at (hash_place places i) is)
 
 -- no block stands at 0, where the header is
 pub some_place : (places : Places) (is_fixed : ℕ → Bool) (len i at : ℕ) → IsLayout places is_fixed len → i < entries places → fits places i at 4096 ≡ true → 0 < at

@@ -5,24 +5,24 @@ use Rattle.std.proofs.lemmas.Bool.{and_parts, and_from, or_cases, eqb-true, leb-
 use Rattle.std.proofs.lemmas.Bool.Decides.{nat_tests}
 use Rattle.inc_bytes.specs.declared.span.Span.{Span}
 use Rattle.inc_tree.specs.Geometry.{block_len, data_blocks}
-use Rattle.inc_entry.specs.Clear.{misses, is_clear}
+use Rattle.inc_entry.specs.Spans.{misses, is_clear}
 use Rattle.inc_entry.specs.Entry.{Places, areas_of, entry_size, fits, has_size, asks, is_open, past_end, is_compressed, is_closed, class_of}
 use Rattle.inc_entry.specs.declared.classes.Class.TheVariants.{Closed, OpenAt, Compressed, Damaged}
 use Rattle.inc_entry.specs.declared.entry.Entry.{Entry}
-use Rattle.inc_layout.proofs.EntryLemmas.{most_len}
+use Rattle.inc_entry.proofs.BlockLemmas.{most_len}
 
 false_and : (a b : Bool) → a ≡ false → (a && b) ≡ false
 false_and a b e = ap (λ (x : Bool). x && b) e
 
 -- ---- sizes, and shorter ranges
 
-pub size_at_most : (places : Places) (i size : ℕ) → has_size places i size ≡ true → (size ≤ 4096) × (block_len places.size i ≤ size)
+pub size_at_most : (places : Places) (i size : ℕ) → has_size places i size ≡ true → (size ≤ 4096) × (block_len places.shape i ≤ size)
 unfolding has_size
 size_at_most places i size h =
-    let most = most_len places.size i in
-    elim (or_cases (size == 4096) (size == block_len places.size i) h) [
+    let most = most_len places.shape i in
+    elim (or_cases (size == 4096) (size == block_len places.shape i) h) [
       | inl whole ↦ let e : size ≡ 4096 = eqb-true _ _ whole in (omega arith, omega arith)
-      | inr own ↦ let e : size ≡ block_len places.size i = eqb-true _ _ own in (omega arith, omega arith)
+      | inr own ↦ let e : size ≡ block_len places.shape i = eqb-true _ _ own in (omega arith, omega arith)
     ]
 
 misses_less : (span : Span) (at n m : ℕ) → n ≤ m → misses span at m ≡ true → misses span at n ≡ true
@@ -38,9 +38,9 @@ clear_less (span ∷ spans) at n m le h =
 pub fits_less : (places : Places) (i at n m : ℕ) → n ≤ m → fits places i at m ≡ true → fits places i at n ≡ true
 unfolding fits
 fits_less places i at n m le h =
-    elim (cases_lt i (data_blocks places.size)) [
-      | inl lt ↦ rw (lt-ltb i (data_blocks places.size) lt) (clear_less (areas_of places) at n m le (rw (lt-ltb i (data_blocks places.size) lt) at h))
-      | inr ge ↦ rw (le-ltb i (data_blocks places.size) ge) (rw (le-ltb i (data_blocks places.size) ge) at h)
+    elim (cases_lt i (data_blocks places.shape)) [
+      | inl lt ↦ rw (lt-ltb i (data_blocks places.shape) lt) (clear_less (areas_of places) at n m le (rw (lt-ltb i (data_blocks places.shape) lt) at h))
+      | inr ge ↦ rw (le-ltb i (data_blocks places.shape) ge) (rw (le-ltb i (data_blocks places.shape) ge) at h)
     ]
 
 -- ---- open entries
@@ -59,7 +59,7 @@ pub record IsOpen (places : Places) (len i : ℕ) (e : Entry) (place size : ℕ)
   pub offset : e.offset ≡ place
   pub sized : entry_size e ≡ size
   pub most : size ≤ 4096
-  pub least : block_len places.size i ≤ size
+  pub least : block_len places.shape i ≤ size
 
 asked_size : (places : Places) (i : ℕ) (e : Entry) → asks places i e ≡ true → has_size places i (entry_size e) ≡ true
 unfolding asks
@@ -177,7 +177,7 @@ torn_gate places len i e low flags some here inside =
 
 whole_size : (places : Places) (i size : ℕ) → size ≡ 4096 → has_size places i size ≡ true
 unfolding has_size
-whole_size places i size e = let whole : (size == 4096) ≡ true = grind (arith, nat_tests) in ap (λ (b : Bool). b || (size == block_len places.size i)) whole
+whole_size places i size e = let whole : (size == 4096) ≡ true = grind (arith, nat_tests) in ap (λ (b : Bool). b || (size == block_len places.shape i)) whole
 
 -- the gate that a fill writes
 pub gate_class : (places : Places) (len i : ℕ) (e : Entry) → e.low ≡ 0 → e.flags ≡ 0 → e.high ≡ 16 → 0 < e.offset → fits places i e.offset 4096 ≡ true → e.offset + 4096 ≤ len

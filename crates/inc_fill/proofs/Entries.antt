@@ -5,16 +5,16 @@ use Rattle.inc_bytes.specs.Fields.{le_number, le_bytes}
 use Rattle.inc_bytes.proofs.Numbers.{length-le_bytes, le_number-le_bytes}
 use Rattle.inc_tree.specs.Geometry.{block_len}
 use Rattle.inc_tree.specs.Path.{block_digest}
-use Rattle.inc_entry.specs.Entry.{Places, entry_of}
-use Rattle.inc_layout.specs.Backing.{digest_at}
-use Rattle.inc_layout.specs.Parts.{part}
+use Rattle.inc_entry.specs.Entry.{Places, entry_from}
+use Rattle.inc_entry.specs.Stored.{digest_at}
+use Rattle.inc_entry.specs.Stored.{part}
 
 -- the two files have the same `n` bytes from a place on
 abbrev pub SameAt : List ℕ → List ℕ → ℕ → ℕ → Type 0
 SameAt a b at n = (k : ℕ) → k < n → get_or a (at + k) 0 ≡ get_or b (at + k) 0
 
-pub same_entry : (a b : List ℕ) (at : ℕ) → SameAt a b at 10 → entry_of a at ≡ entry_of b at
-unfolding entry_of
+pub same_entry : (a b : List ℕ) (at : ℕ) → SameAt a b at 10 → entry_from a at ≡ entry_from b at
+unfolding entry_from
 same_entry a b at same =
     let b0 = same 0 (omega arith) in
     let b1 = same 1 (omega arith) in
@@ -33,8 +33,8 @@ same_entry a b at same =
       flags = le_number (b8 i ∷ b9 i ∷ []);
     }
 
-pub same_offset : (a b : List ℕ) (at : ℕ) → SameAt a b at 6 → (entry_of a at).offset ≡ (entry_of b at).offset
-unfolding entry_of
+pub same_offset : (a b : List ℕ) (at : ℕ) → SameAt a b at 6 → (entry_from a at).offset ≡ (entry_from b at).offset
+unfolding entry_from
 same_offset a b at same =
     let b0 = same 0 (omega arith) in
     let b1 = same 1 (omega arith) in
@@ -44,26 +44,26 @@ same_offset a b at same =
     let b5 = same 5 (omega arith) in
     λ i. le_number (b0 i ∷ b1 i ∷ b2 i ∷ b3 i ∷ b4 i ∷ b5 i ∷ [])
 
-pub same_low : (a b : List ℕ) (at : ℕ) → get_or a (at + 6) 0 ≡ get_or b (at + 6) 0 → (entry_of a at).low ≡ (entry_of b at).low
-unfolding entry_of
+pub same_low : (a b : List ℕ) (at : ℕ) → get_or a (at + 6) 0 ≡ get_or b (at + 6) 0 → (entry_from a at).low ≡ (entry_from b at).low
+unfolding entry_from
 same_low a b at same = same
 
-pub same_high : (a b : List ℕ) (at : ℕ) → get_or a (at + 7) 0 ≡ get_or b (at + 7) 0 → (entry_of a at).high ≡ (entry_of b at).high
-unfolding entry_of
+pub same_high : (a b : List ℕ) (at : ℕ) → get_or a (at + 7) 0 ≡ get_or b (at + 7) 0 → (entry_from a at).high ≡ (entry_from b at).high
+unfolding entry_from
 same_high a b at same = same
 
 moved : (a b : List ℕ) (j k : ℕ) → j ≡ k → get_or a j 0 ≡ get_or b j 0 → get_or a k 0 ≡ get_or b k 0
 moved a b j k e same = subst (λ (n : ℕ). get_or a n 0 ≡ get_or b n 0) e same
 
-pub same_flags : (a b : List ℕ) (at : ℕ) → SameAt a b (at + 8) 2 → (entry_of a at).flags ≡ (entry_of b at).flags
-unfolding entry_of
+pub same_flags : (a b : List ℕ) (at : ℕ) → SameAt a b (at + 8) 2 → (entry_from a at).flags ≡ (entry_from b at).flags
+unfolding entry_from
 same_flags a b at same =
     let b8 = moved a b (at + 8 + 0) (at + 8) (omega arith) (same 0 (omega arith)) in
     let b9 = moved a b (at + 8 + 1) (at + 9) (omega arith) (same 1 (omega arith)) in
     λ i. le_number (b8 i ∷ b9 i ∷ [])
 
-pub high_is : (a : List ℕ) (at value : ℕ) → get_or a (at + 7) 0 ≡ value → (entry_of a at).high ≡ value
-unfolding entry_of
+pub high_is : (a : List ℕ) (at value : ℕ) → get_or a (at + 7) 0 ≡ value → (entry_from a at).high ≡ value
+unfolding entry_from
 high_is a at value is = is
 
 -- ---- a place of six bytes
@@ -78,8 +78,8 @@ six (a ∷ b ∷ c ∷ d ∷ f ∷ []) e = absurd (omega arith)
 six (a ∷ b ∷ c ∷ d ∷ f ∷ g ∷ []) e = refl
 six (a ∷ b ∷ c ∷ d ∷ f ∷ g ∷ h ∷ xs) e = absurd (omega arith)
 
-pub offset_is : (a : List ℕ) (at place : ℕ) → place < 2 ^ 48 → ((k : ℕ) → k < 6 → get_or a (at + k) 0 ≡ get_or (le_bytes 6 place) k 0) → (entry_of a at).offset ≡ place
-unfolding entry_of
+pub offset_is : (a : List ℕ) (at place : ℕ) → place < 2 ^ 48 → ((k : ℕ) → k < 6 → get_or a (at + k) 0 ≡ get_or (le_bytes 6 place) k 0) → (entry_from a at).offset ≡ place
+unfolding entry_from
 offset_is a at place low same =
     let b0 = same 0 (omega arith) in
     let b1 = same 1 (omega arith) in
@@ -87,7 +87,7 @@ offset_is a at place low same =
     let b3 = same 3 (omega arith) in
     let b4 = same 4 (omega arith) in
     let b5 = same 5 (omega arith) in
-    let bytes : (entry_of a at).offset ≡ le_number (get_or (le_bytes 6 place) 0 0 ∷ get_or (le_bytes 6 place) 1 0 ∷ get_or (le_bytes 6 place) 2 0 ∷ get_or (le_bytes 6 place) 3 0 ∷ get_or (le_bytes 6 place) 4 0 ∷ get_or (le_bytes 6 place) 5 0 ∷ []) =
+    let bytes : (entry_from a at).offset ≡ le_number (get_or (le_bytes 6 place) 0 0 ∷ get_or (le_bytes 6 place) 1 0 ∷ get_or (le_bytes 6 place) 2 0 ∷ get_or (le_bytes 6 place) 3 0 ∷ get_or (le_bytes 6 place) 4 0 ∷ get_or (le_bytes 6 place) 5 0 ∷ []) =
     λ i. le_number (b0 i ∷ b1 i ∷ b2 i ∷ b3 i ∷ b4 i ∷ b5 i ∷ []) in
     bytes ∙ ap le_number (six (le_bytes 6 place) (length-le_bytes 6 place)) ∙ le_number-le_bytes 6 place (omega arith)
 
@@ -104,17 +104,17 @@ same_part a b at n in_a in_b same =
     ext_get_or 0 (part n at a) (part n at b) (part_length n at a in_a ∙ sym (part_length n at b in_b))
     (λ k lt. let small : k < n = omega (arith, part_length n at a in_a) in part_byte n at a k small ∙ same k small ∙ sym (part_byte n at b k small))
 
-pub same_digest : (places : Places) (a b : List ℕ) (i place : ℕ) → place + block_len places.size i ≤ length a → place + block_len places.size i ≤ length b
-    → SameAt a b place (block_len places.size i) → digest_at places a i place ≡ digest_at places b i place
-same_digest places a b i place in_a in_b same = ap block_digest (same_part a b place (block_len places.size i) in_a in_b same)
+pub same_digest : (places : Places) (a b : List ℕ) (i place : ℕ) → place + block_len places.shape i ≤ length a → place + block_len places.shape i ≤ length b
+    → SameAt a b place (block_len places.shape i) → digest_at places a i place ≡ digest_at places b i place
+same_digest places a b i place in_a in_b same = ap block_digest (same_part a b place (block_len places.shape i) in_a in_b same)
 
 front : (n : ℕ) (block : List ℕ) → n ≤ length block → length (take n block) ≡ n
 front n block le = omega (arith, length-take n block)
 
 -- a block that begins with these bytes
-pub digest_is : (places : Places) (a block : List ℕ) (i place : ℕ) → block_len places.size i ≤ length block → place + block_len places.size i ≤ length a
-    → ((k : ℕ) → k < block_len places.size i → get_or a (place + k) 0 ≡ get_or block k 0) → digest_at places a i place ≡ block_digest (take (block_len places.size i) block)
+pub digest_is : (places : Places) (a block : List ℕ) (i place : ℕ) → block_len places.shape i ≤ length block → place + block_len places.shape i ≤ length a
+    → ((k : ℕ) → k < block_len places.shape i → get_or a (place + k) 0 ≡ get_or block k 0) → digest_at places a i place ≡ block_digest (take (block_len places.shape i) block)
 digest_is places a block i place enough in_a same =
-    let n : ℕ = block_len places.size i in
+    let n : ℕ = block_len places.shape i in
     ap block_digest (ext_get_or 0 (part n place a) (take n block) (part_length n place a in_a ∙ sym (front n block enough))
     (λ k lt. let small : k < n = omega (arith, part_length n place a in_a) in part_byte n place a k small ∙ same k small ∙ sym (get_or-take n block k 0 small)))

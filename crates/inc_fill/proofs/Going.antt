@@ -5,13 +5,13 @@ use Rattle.inc_bytes.specs.Fields.{le_bytes}
 use Rattle.inc_bytes.proofs.Numbers.{length-le_bytes}
 use Rattle.inc_tree.specs.Geometry.{block_len, data_blocks}
 use Rattle.inc_tree.specs.Path.{block_digest}
-use Rattle.inc_entry.specs.Entry.{Places, entries, entry_at, entry_of, fits}
+use Rattle.inc_entry.specs.Entry.{Places, entries, entry_at, entry_from, fits}
 use Rattle.inc_disk.specs.Disk.{DiskState, IsImage, IsTorn, Now, SoundNow, overwritten, touched, Writes, Syncs}
 use Rattle.inc_disk.specs.Laws.{EachImage, Goes}
 use Rattle.inc_disk.proofs.Moments.{started, stays, goes_on, sync_goes}
 use Rattle.inc_disk.proofs.States.{torn_overwritten, written_byte, length-overwritten}
-use Rattle.inc_layout.specs.Keeps.{IsLayout, Keeps, Shut}
-use Rattle.inc_layout.proofs.EntryLemmas.{most_len}
+use Rattle.inc_entry.specs.Keeps.{IsLayout, Keeps, Shut}
+use Rattle.inc_entry.proofs.BlockLemmas.{most_len}
 use Rattle.inc_fill.specs.Facts.{Facts, HasBlock, InFlight, Row, Written, Placed, Settled, Gated}
 use Rattle.inc_fill.specs.Steps.{BlockGoes, PlaceGoes, SettleGoes, GateGoes, StatusGoes, HasLen, IsFreePlace, count_bytes}
 use Rattle.inc_fill.proofs.Areas.{end_fits, hash_fits, some_place, entry_inside, spans_inside, tree_inside, hash_in_tree}
@@ -34,7 +34,7 @@ now_each [] start P so has = tt
 now_each (disk ∷ past) start P so has = so disk has
 
 -- `failed` is what each image is kept by
-write_from : {T E : Type 0} (at : ℕ) (piece : List ℕ) (old new : List DiskState) (result : Result T E) (start done failed : DiskState → Type 0) (P : List ℕ → Type 0)
+pub write_from : {T E : Type 0} (at : ℕ) (piece : List ℕ) (old new : List DiskState) (result : Result T E) (start done failed : DiskState → Type 0) (P : List ℕ → Type 0)
     → Writes at piece old new result → Now old start
     → ((disk : DiskState) → failed disk → EachImage disk P)
     → ((disk : DiskState) → start disk → failed disk)
@@ -72,7 +72,7 @@ whole_torn at piece bytes le = torn_overwritten at (length piece) piece bytes le
 free_end : (places : Places) (is_fixed : ℕ → Bool) (base len j place : ℕ) → IsLayout places is_fixed base → j < entries places → base ≤ len → IsFreePlace places len j place
     → (place ≤ len) × (fits places j place 4096 ≡ true)
 free_end places is_fixed base len j place layout here le free =
-    elim (cases_lt j (data_blocks places.size)) [
+    elim (cases_lt j (data_blocks places.shape)) [
       | inl content ↦ (omega (arith, free.of_content content), end_fits places is_fixed base j place layout content (omega (arith, free.of_content content)))
       | inr hash ↦
           let inside = tree_inside places is_fixed base _ layout (hash_in_tree places j 0 hash here (omega arith)) in
@@ -80,11 +80,11 @@ free_end places is_fixed base len j place layout here le free =
     ]
 
 written_block : (places : Places) (is_fixed : ℕ → Bool) (base : ℕ) (disk : DiskState) (j place : ℕ) (block digest : List ℕ) → IsLayout places is_fixed base → j < entries places
-    → base ≤ length disk.reads → IsFreePlace places (length disk.reads) j place → length block ≡ 4096 → digest ≡ block_digest (take (block_len places.size j) block)
+    → base ≤ length disk.reads → IsFreePlace places (length disk.reads) j place → length block ≡ 4096 → digest ≡ block_digest (take (block_len places.shape j) block)
     → HasBlock (touched place (length block) (overwritten place block disk.reads) disk) places j place digest
 written_block places is_fixed base disk j place block digest layout here le free whole is =
     let parts = free_end places is_fixed base (length disk.reads) j place layout here le free in
-    let most = most_len places.size j in
+    let most = most_len places.shape j in
     let longer = length-overwritten place block disk.reads parts.0 in
     record {
       some = some_place places is_fixed base j place layout here parts.1;
@@ -94,72 +94,73 @@ written_block places is_fixed base disk j place block digest layout here le free
     }
 
 pub block_goes : {T E : Type 0} (place : ℕ) (block : List ℕ) (old new : List DiskState) (result : Result T E) → length block ≡ 4096 → Writes place block old new result → BlockGoes place block old new result
-block_goes place block old new result whole writes places is_fixed base kind row row' j len digest layout here has_len free end is shut none same now has =
-    write_from place block old new result (λ disk. Facts places is_fixed base kind row disk × (length disk.reads ≡ len)) (Facts places is_fixed base kind row') (Facts places is_fixed base kind row)
-    (Keeps places is_fixed base kind) writes (both old has has_len) (facts_keep places is_fixed base kind row) (λ disk start. start.0)
-    (λ disk bytes start torn. block_step places is_fixed base kind row row disk place (length block) bytes j layout here (free_now disk start.1) whole (omega arith) shut (λ i other. refl) start.0 torn
-    (subst (λ (r : Option Row). InFlight (touched place (length block) bytes disk) places j Shut r) (sym none) tt))
+block_goes place block old new result whole writes places is_fixed base kind row row' spot spot' j len digest layout here has_len free end is shut none same now unmoved moved has =
+    write_from place block old new result (λ disk. Facts places is_fixed base kind row spot disk × (length disk.reads ≡ len)) (Facts places is_fixed base kind row' spot') (Facts places is_fixed base kind row spot)
+    (Keeps places is_fixed base kind) writes (both old has has_len) (facts_keep places is_fixed base kind row spot) (λ disk start. start.0)
+    (λ disk bytes start torn. block_step places is_fixed base kind row row spot spot disk place (length block) bytes j layout here (free_now disk start.1) whole (omega arith) shut (λ i other. refl) (λ i other. refl) start.0 torn
+    (subst (λ (r : Option Row). InFlight (touched place (length block) bytes disk) places j (spot j) Shut r) (sym none) tt))
     (λ disk start.
     let le : length base ≤ length disk.reads = omega (arith, start.0.long, start.0.longer) in
     let low = (free_end places is_fixed (length base) (length disk.reads) j place layout here le (free_now disk start.1)).0 in
     let block_there = written_block places is_fixed (length base) disk j place block digest layout here le (free_now disk start.1) whole is in
-    block_step places is_fixed base kind row row' disk place (length block) (overwritten place block disk.reads) j layout here (free_now disk start.1) whole (omega arith) shut same start.0
+    block_step places is_fixed base kind row row' spot spot' disk place (length block) (overwritten place block disk.reads) j layout here (free_now disk start.1) whole (omega arith) shut same unmoved start.0
     (whole_torn place block disk.reads low)
-    (subst (λ (r : Option Row). InFlight (touched place (length block) (overwritten place block disk.reads) disk) places j Shut r) (sym now) (block_there, refl)))
+    (subst (λ (p : ℕ). InFlight (touched place (length block) (overwritten place block disk.reads) disk) places j p Shut (row' j)) (sym moved)
+    (subst (λ (r : Option Row). InFlight (touched place (length block) (overwritten place block disk.reads) disk) places j place Shut r) (sym now) (block_there, refl))))
   where
     free_now : (disk : DiskState) → length disk.reads ≡ len → IsFreePlace places (length disk.reads) j place
     free_now disk e = subst (λ (n : ℕ). IsFreePlace places n j place) (sym e) free
 
-    both : (states : List DiskState) → Now states (Facts places is_fixed base kind row) → HasLen states len → Now states (λ disk. Facts places is_fixed base kind row disk × (length disk.reads ≡ len))
+    both : (states : List DiskState) → Now states (Facts places is_fixed base kind row spot) → HasLen states len → Now states (λ disk. Facts places is_fixed base kind row spot disk × (length disk.reads ≡ len))
     both [] facts lens = tt
     both (disk ∷ past) facts lens = (facts, lens)
 
 -- ---- its place
 
 pub place_goes : {T E : Type 0} (at place : ℕ) (old new : List DiskState) (result : Result T E) → place < 2 ^ 48 → Writes at (le_bytes 6 place) old new result → PlaceGoes at place old new result
-place_goes at place old new result low writes places is_fixed base kind row row' j digest layout here is was same now has =
+place_goes at place old new result low writes places is_fixed base kind row row' spot j digest layout here is known was same now has =
     let six : length (le_bytes 6 place) ≡ 6 = length-le_bytes 6 place in
-    write_from at (le_bytes 6 place) old new result (Facts places is_fixed base kind row) (Facts places is_fixed base kind row') (Facts places is_fixed base kind row)
-    (Keeps places is_fixed base kind) writes has (facts_keep places is_fixed base kind row) (λ disk start. start)
-    (λ disk bytes start torn. place_step places is_fixed base kind row row disk at (length (le_bytes 6 place)) bytes j place digest Written layout here is six was (λ i other. refl) was start torn refl)
+    write_from at (le_bytes 6 place) old new result (Facts places is_fixed base kind row spot) (Facts places is_fixed base kind row' spot) (Facts places is_fixed base kind row spot)
+    (Keeps places is_fixed base kind) writes has (facts_keep places is_fixed base kind row spot) (λ disk start. start)
+    (λ disk bytes start torn. place_step places is_fixed base kind row row spot disk at (length (le_bytes 6 place)) bytes j digest Written layout here is six was (λ i other. refl) was start torn refl)
     (λ disk start.
     let inside = entry_inside places is_fixed (length base) j 0 layout here (omega arith) in
     let le : at ≤ length disk.reads = omega (arith, start.long, start.longer) in
-    let offset : (entry_of (overwritten at (le_bytes 6 place) disk.reads) (entry_at places j)).offset ≡ place =
-    subst (λ (n : ℕ). (entry_of (overwritten at (le_bytes 6 place) disk.reads) n).offset ≡ place) is
+    let offset : (entry_from (overwritten at (le_bytes 6 place) disk.reads) (entry_at places j)).offset ≡ place =
+    subst (λ (n : ℕ). (entry_from (overwritten at (le_bytes 6 place) disk.reads) n).offset ≡ place) is
     (offset_is (overwritten at (le_bytes 6 place) disk.reads) at place low (λ k lt. written_byte at (le_bytes 6 place) disk.reads k le (omega arith))) in
-    place_step places is_fixed base kind row row' disk at (length (le_bytes 6 place)) (overwritten at (le_bytes 6 place) disk.reads) j place digest Placed layout here is six was same now start
-    (whole_torn at (le_bytes 6 place) disk.reads le) (refl, offset))
+    place_step places is_fixed base kind row row' spot disk at (length (le_bytes 6 place)) (overwritten at (le_bytes 6 place) disk.reads) j digest Placed layout here is six was same now start
+    (whole_torn at (le_bytes 6 place) disk.reads le) (refl, offset ∙ sym known))
 
 -- ---- a sync
 
 pub settle_goes : {T E : Type 0} (old new : List DiskState) (result : Result T E) → SoundNow old → Syncs old new result → SettleGoes old new result
-settle_goes old new result sound syncs places is_fixed base kind kind' row row' layout kinds rows has =
-    sync_goes old new result (Facts places is_fixed base kind' row') (Facts places is_fixed base kind row) (Keeps places is_fixed base kind) syncs sound has
-    (now_each old (Facts places is_fixed base kind row) (Keeps places is_fixed base kind) (facts_keep places is_fixed base kind row) has)
-    (λ disk image start. settle_step places is_fixed base kind kind' row row' disk layout kinds rows start)
+settle_goes old new result sound syncs places is_fixed base kind kind' row row' spot layout kinds rows has =
+    sync_goes old new result (Facts places is_fixed base kind' row' spot) (Facts places is_fixed base kind row spot) (Keeps places is_fixed base kind) syncs sound has
+    (now_each old (Facts places is_fixed base kind row spot) (Keeps places is_fixed base kind) (facts_keep places is_fixed base kind row spot) has)
+    (λ disk image start. settle_step places is_fixed base kind kind' row row' spot disk layout kinds rows start)
 
 -- ---- the gate
 
 pub gate_goes : {T E : Type 0} (at : ℕ) (old new : List DiskState) (result : Result T E) → Writes (at + 7) (16 ∷ []) old new result → GateGoes at old new result
-gate_goes at old new result writes places is_fixed base kind kind' row row' j place digest layout here is was same now same_kind begun has =
-    write_from (at + 7) (16 ∷ []) old new result (Facts places is_fixed base kind' row) (Facts places is_fixed base kind' row') (Facts places is_fixed base kind' row)
-    (Keeps places is_fixed base kind') writes (begins old has) (facts_keep places is_fixed base kind' row) (λ disk start. start)
-    (λ disk bytes start torn. gate_step places is_fixed base kind' row row disk (at + 7) 1 bytes j place digest Settled layout here (omega arith) refl was begun (λ i other. refl) was start torn
+gate_goes at old new result writes places is_fixed base kind kind' row row' spot j digest layout here is was same now same_kind begun has =
+    write_from (at + 7) (16 ∷ []) old new result (Facts places is_fixed base kind' row spot) (Facts places is_fixed base kind' row' spot) (Facts places is_fixed base kind' row spot)
+    (Keeps places is_fixed base kind') writes (begins old has) (facts_keep places is_fixed base kind' row spot) (λ disk start. start)
+    (λ disk bytes start torn. gate_step places is_fixed base kind' row row spot disk (at + 7) 1 bytes j digest Settled layout here (omega arith) refl was begun (λ i other. refl) was start torn
     (λ stored. (inr refl, stored)))
     (λ disk start.
     let inside = entry_inside places is_fixed (length base) j 7 layout here (omega arith) in
     let le : at + 7 ≤ length disk.reads = omega (arith, start.long, start.longer) in
     let byte = written_byte (at + 7) (16 ∷ []) disk.reads 0 le (omega arith) in
     let e : (at + 7) + 0 ≡ entry_at places j + 7 = omega arith in
-    let high : (entry_of (overwritten (at + 7) (16 ∷ []) disk.reads) (entry_at places j)).high ≡ 16 =
+    let high : (entry_from (overwritten (at + 7) (16 ∷ []) disk.reads) (entry_at places j)).high ≡ 16 =
     high_is (overwritten (at + 7) (16 ∷ []) disk.reads) (entry_at places j) 16 (subst (λ (n : ℕ). get_or (overwritten (at + 7) (16 ∷ []) disk.reads) n 0 ≡ 16) e byte) in
-    gate_step places is_fixed base kind' row row' disk (at + 7) 1 (overwritten (at + 7) (16 ∷ []) disk.reads) j place digest Gated layout here (omega arith) refl was begun same now start
+    gate_step places is_fixed base kind' row row' spot disk (at + 7) 1 (overwritten (at + 7) (16 ∷ []) disk.reads) j digest Gated layout here (omega arith) refl was begun same now start
     (whole_torn (at + 7) (16 ∷ []) disk.reads le) (λ stored. (refl, high)))
   where
-    begins : (states : List DiskState) → Now states (Facts places is_fixed base kind row) → Now states (Facts places is_fixed base kind' row)
+    begins : (states : List DiskState) → Now states (Facts places is_fixed base kind row spot) → Now states (Facts places is_fixed base kind' row spot)
     begins [] facts = tt
-    begins (disk ∷ past) facts = gate_begins places is_fixed base kind kind' row disk j place digest was same_kind begun facts
+    begins (disk ∷ past) facts = gate_begins places is_fixed base kind kind' row spot disk j digest was same_kind begun facts
 
 -- ---- the counts of the status record
 
@@ -168,12 +169,12 @@ length-count_bytes data_count hash_count =
     omega (arith, length-append (le_bytes 4 data_count) (le_bytes 4 hash_count), length-le_bytes 4 data_count, length-le_bytes 4 hash_count)
 
 pub status_goes : {T E : Type 0} (at : ℕ) (piece : List ℕ) (old new : List DiskState) (result : Result T E) → length piece ≡ 8 → Writes at piece old new result → StatusGoes at old new result
-status_goes at piece old new result eight writes places is_fixed base kind row layout inside loose has =
-    write_from at piece old new result (Facts places is_fixed base kind row) (Facts places is_fixed base kind row) (Facts places is_fixed base kind row)
-    (Keeps places is_fixed base kind) writes has (facts_keep places is_fixed base kind row) (λ disk start. start) step
+status_goes at piece old new result eight writes places is_fixed base kind row spot layout inside loose has =
+    write_from at piece old new result (Facts places is_fixed base kind row spot) (Facts places is_fixed base kind row spot) (Facts places is_fixed base kind row spot)
+    (Keeps places is_fixed base kind) writes has (facts_keep places is_fixed base kind row spot) (λ disk start. start) step
     (λ disk start.
     let within = spans_inside places is_fixed (length base) (at + 0) layout (inside 0 (omega arith)) in
     step disk (overwritten at piece disk.reads) start (whole_torn at piece disk.reads (omega (arith, start.long, start.longer))))
   where
-    step : (disk : DiskState) (bytes : List ℕ) → Facts places is_fixed base kind row disk → IsTorn at (length piece) disk.reads bytes → Facts places is_fixed base kind row (touched at (length piece) bytes disk)
-    step disk bytes start torn = status_step places is_fixed base kind row disk at (length piece) bytes layout eight (λ k lt. inside k (omega arith)) (λ k lt. loose k (omega arith)) start torn
+    step : (disk : DiskState) (bytes : List ℕ) → Facts places is_fixed base kind row spot disk → IsTorn at (length piece) disk.reads bytes → Facts places is_fixed base kind row spot (touched at (length piece) bytes disk)
+    step disk bytes start torn = status_step places is_fixed base kind row spot disk at (length piece) bytes layout eight (λ k lt. inside k (omega arith)) (λ k lt. loose k (omega arith)) start torn

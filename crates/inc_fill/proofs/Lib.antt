@@ -1,11 +1,10 @@
 pub mod Areas
-pub mod Chained
 pub mod Classes
 pub mod Counts
 pub mod Entries
 pub mod Going
 pub mod Images
-pub mod Mounted
+pub mod Known
 pub mod Settling
 pub mod Spares
 pub mod Stepping

@@ -3,11 +3,11 @@ use Rattle.std.proofs.Common.{◌≡◌, ◌⊎◌, inl, inr, ℕ, ◌+◌, ◌<
 use Rattle.inc_tree.specs.Geometry.{block_len}
 use Rattle.inc_entry.specs.Entry.{Places, entries, entry_at, entry_size, fits}
 use Rattle.inc_entry.specs.declared.classes.Class.{Class}
-use Rattle.inc_entry.specs.declared.classes.Class.TheVariants.{Compressed, Damaged}
+use Rattle.inc_entry.specs.declared.classes.Class.TheVariants.{OpenAt, Compressed, Damaged}
 use Rattle.inc_disk.specs.Disk.{DiskState, settled}
-use Rattle.inc_layout.specs.Backing.{digest_at}
-use Rattle.inc_layout.specs.Keeps.{IsLayout, Kind, Acknowledged, Begun, KeptDamaged, KeptCompressed, Shut}
-use Rattle.inc_layout.proofs.EntryLemmas.{most_len}
+use Rattle.inc_entry.specs.Stored.{class_at}
+use Rattle.inc_entry.specs.Keeps.{IsLayout, Kind, Acknowledged, Begun, KeptDamaged, KeptCompressed, Shut}
+use Rattle.inc_entry.proofs.BlockLemmas.{most_len}
 use Rattle.inc_fill.specs.Facts.{IsClean, CleanAt, entry_read, IsKeptOpen, IsStored, IsBehindGate, IsKeptBegun, IsKeptClass, Own, Row, Stage, Written, Placed, Settled, Gated, row_at, HasBlock, AtStage, InFlight, Facts, kind_at, row_after, settled_kind, settled_row}
 use Rattle.inc_fill.proofs.Areas.{entry_inside}
 use Rattle.inc_fill.proofs.Classes.{class_longer, gate_class, open_not_past}
@@ -41,21 +41,20 @@ class_settled disk places i class longer own =
     let both = class_longer places (length disk.synced) (length disk.reads) i (entry_read disk places i) longer own.not_past in
     record { entry = range_settled disk (entry_at places i) 10 longer own.entry; class_is = both.0 ∙ own.class_is; not_past = both.1 }
 
-own_settled : (disk : DiskState) (places : Places) (i : ℕ) (kind : Kind) → length disk.synced ≤ length disk.reads → Own disk places i kind → Own (settled disk.reads) places i kind
-own_settled disk places i (Acknowledged digest) longer own =
-    let not_past = open_not_past places (length disk.synced) i (entry_read disk places i) own.place own.size own.open_at in
+own_settled : (disk : DiskState) (places : Places) (i place : ℕ) (kind : Kind) → length disk.synced ≤ length disk.reads → Own disk places i place kind → Own (settled disk.reads) places i place kind
+own_settled disk places i place (Acknowledged digest) longer own =
+    let not_past = open_not_past places (length disk.synced) i (entry_read disk places i) place own.size own.open_at in
     record {
-      place = own.place;
       size = own.size;
       entry = range_settled disk (entry_at places i) 10 longer own.entry;
       open_at = (class_longer places (length disk.synced) (length disk.reads) i (entry_read disk places i) longer not_past).0 ∙ own.open_at;
-      stored = range_settled disk own.place (block_len places.size i) longer own.stored;
+      stored = range_settled disk place (block_len places.shape i) longer own.stored;
       block = own.block;
     }
-own_settled disk places i (Begun digest) longer own = record { place = own.place; ready = stored_settled disk places i own.place digest longer own.ready; behind = behind_settled disk places i longer own.behind }
-own_settled disk places i KeptDamaged longer own = class_settled disk places i Damaged longer own
-own_settled disk places i KeptCompressed longer own = class_settled disk places i Compressed longer own
-own_settled disk places i Shut longer own = record {
+own_settled disk places i place (Begun digest) longer own = record { ready = stored_settled disk places i place digest longer own.ready; behind = behind_settled disk places i longer own.behind }
+own_settled disk places i place KeptDamaged longer own = class_settled disk places i Damaged longer own
+own_settled disk places i place KeptCompressed longer own = class_settled disk places i Compressed longer own
+own_settled disk places i place Shut longer own = record {
   behind = behind_settled disk places i longer own.behind;
   gate_clean = settled_clean disk.reads (entry_at places i + 7) (omega (arith, longer, own.gate_clean.there));
   gate = own.gate;
@@ -76,64 +75,73 @@ placed_stored disk places i place digest inside has offset = record {
   block = has.block;
 }
 
+-- behind a written gate the entry reads as open
+pub gated_class : (disk : DiskState) (places : Places) (i place : ℕ) (digest : List ℕ) → length disk.synced ≤ length disk.reads → IsKeptBegun disk places i place digest
+    → (entry_read disk places i).high ≡ 16 → class_at places disk.reads i ≡ OpenAt place (entry_size (entry_read disk places i))
+gated_class disk places i place digest longer own high =
+    let offset : (entry_read disk places i).offset ≡ place = own.ready.offset_is in
+    let last : place + 4096 ≤ length disk.reads = omega (arith, longer, (own.ready.stored 4095 (omega arith)).there) in
+    gate_class places (length disk.reads) i (entry_read disk places i) own.behind.low own.behind.flags high (omega (arith, own.ready.some))
+    (subst (λ (p : ℕ). fits places i p 4096 ≡ true) (sym offset) own.ready.here) (omega arith)
+    ∙ ap (λ (p : ℕ). OpenAt p (entry_size (entry_read disk places i))) offset
+
 -- a written gate is settled: the block is there for good
-gated_open : (disk : DiskState) (places : Places) (i : ℕ) (digest : List ℕ) → length disk.synced ≤ length disk.reads → ((k : ℕ) → k < 10 → entry_at places i + k < length disk.reads)
-    → IsKeptBegun disk places i digest → (entry_read disk places i).high ≡ 16 → IsKeptOpen (settled disk.reads) places i digest
-gated_open disk places i digest longer inside own high =
-    let offset : (entry_read disk places i).offset ≡ own.place = own.ready.offset_is in
-    let last : own.place + 4096 ≤ length disk.reads = omega (arith, longer, (own.ready.stored 4095 (omega arith)).there) in
-    let most = most_len places.size i in
+gated_open : (disk : DiskState) (places : Places) (i place : ℕ) (digest : List ℕ) → length disk.synced ≤ length disk.reads → ((k : ℕ) → k < 10 → entry_at places i + k < length disk.reads)
+    → IsKeptBegun disk places i place digest → (entry_read disk places i).high ≡ 16 → IsKeptOpen (settled disk.reads) places i place digest
+gated_open disk places i place digest longer inside own high =
+    let offset : (entry_read disk places i).offset ≡ place = own.ready.offset_is in
+    let last : place + 4096 ≤ length disk.reads = omega (arith, longer, (own.ready.stored 4095 (omega arith)).there) in
+    let most = most_len places.shape i in
     record {
-      place = (entry_read disk places i).offset;
       size = entry_size (entry_read disk places i);
       entry = λ k lt. settled_clean disk.reads (entry_at places i + k) (inside k lt);
-      open_at = gate_class places (length disk.reads) i (entry_read disk places i) own.behind.low own.behind.flags high (omega (arith, own.ready.some))
-          (subst (λ (p : ℕ). fits places i p 4096 ≡ true) (sym offset) own.ready.here) (omega arith);
-      stored = λ k lt. settled_clean disk.reads ((entry_read disk places i).offset + k) (omega arith);
-      block = ap (digest_at places disk.reads i) offset ∙ own.ready.block;
+      open_at = gated_class disk places i place digest longer own high;
+      stored = λ k lt. settled_clean disk.reads (place + k) (omega arith);
+      block = own.ready.block;
     }
 
 -- an index and its row, by the row's stage
-stage_settled : (disk : DiskState) (places : Places) (i : ℕ) (kind : Kind) (place : ℕ) (digest : List ℕ) (stage : Stage) → length disk.synced ≤ length disk.reads
-    → ((k : ℕ) → k < 10 → entry_at places i + k < length disk.reads) → Own disk places i kind → HasBlock disk places i place digest → AtStage disk places i kind place digest stage
-    → Own (settled disk.reads) places i (kind_at kind (row_at place digest stage) stage)
-    × InFlight (settled disk.reads) places i (kind_at kind (row_at place digest stage) stage) (row_after (row_at place digest stage) stage)
-stage_settled disk places i kind place digest Written longer inside own has at_stage = (own_settled disk places i kind longer own, (block_settled disk places i place digest has, at_stage))
-stage_settled disk places i kind place digest Placed longer inside own has at_stage =
-    (own_settled disk places i kind longer own, (block_settled disk places i place digest has, (inl at_stage.0, placed_stored disk places i place digest inside has at_stage.1)))
-stage_settled disk places i kind place digest Settled longer inside own has at_stage =
-    (own_settled disk places i kind longer own, (block_settled disk places i place digest has, (at_stage.0, stored_settled disk places i place digest longer at_stage.1)))
-stage_settled disk places i kind place digest Gated longer inside own has at_stage =
-    (gated_open disk places i digest longer inside (subst (λ (k : Kind). Own disk places i k) at_stage.0 own) at_stage.1, tt)
+stage_settled : (disk : DiskState) (places : Places) (i place : ℕ) (kind : Kind) (digest : List ℕ) (stage : Stage) → length disk.synced ≤ length disk.reads
+    → ((k : ℕ) → k < 10 → entry_at places i + k < length disk.reads) → Own disk places i place kind → HasBlock disk places i place digest → AtStage disk places i place kind digest stage
+    → Own (settled disk.reads) places i place (kind_at kind (row_at digest stage) stage)
+    × InFlight (settled disk.reads) places i place (kind_at kind (row_at digest stage) stage) (row_after (row_at digest stage) stage)
+stage_settled disk places i place kind digest Written longer inside own has at_stage = (own_settled disk places i place kind longer own, (block_settled disk places i place digest has, at_stage))
+stage_settled disk places i place kind digest Placed longer inside own has at_stage =
+    (own_settled disk places i place kind longer own, (block_settled disk places i place digest has, (inl at_stage.0, placed_stored disk places i place digest inside has at_stage.1)))
+stage_settled disk places i place kind digest Settled longer inside own has at_stage =
+    (own_settled disk places i place kind longer own, (block_settled disk places i place digest has, (at_stage.0, stored_settled disk places i place digest longer at_stage.1)))
+stage_settled disk places i place kind digest Gated longer inside own has at_stage =
+    (gated_open disk places i place digest longer inside (subst (λ (k : Kind). Own disk places i place k) at_stage.0 own) at_stage.1, tt)
 
-both_settled : (disk : DiskState) (places : Places) (i : ℕ) (kind : Kind) (row : Option Row) → length disk.synced ≤ length disk.reads → ((k : ℕ) → k < 10 → entry_at places i + k < length disk.reads)
-    → Own disk places i kind → InFlight disk places i kind row → Own (settled disk.reads) places i (settled_kind kind row) × InFlight (settled disk.reads) places i (settled_kind kind row) (settled_row row)
-both_settled disk places i kind None longer inside own has = (own_settled disk places i kind longer own, tt)
-both_settled disk places i kind (Some row) longer inside own has = stage_settled disk places i kind row.place row.digest row.stage longer inside own has.0 has.1
+both_settled : (disk : DiskState) (places : Places) (i place : ℕ) (kind : Kind) (row : Option Row) → length disk.synced ≤ length disk.reads → ((k : ℕ) → k < 10 → entry_at places i + k < length disk.reads)
+    → Own disk places i place kind → InFlight disk places i place kind row
+    → Own (settled disk.reads) places i place (settled_kind kind row) × InFlight (settled disk.reads) places i place (settled_kind kind row) (settled_row row)
+both_settled disk places i place kind None longer inside own has = (own_settled disk places i place kind longer own, tt)
+both_settled disk places i place kind (Some row) longer inside own has = stage_settled disk places i place kind row.digest row.stage longer inside own has.0 has.1
 
-pub settle_step : (places : Places) (is_fixed : ℕ → Bool) (base : List ℕ) (kind kind' : ℕ → Kind) (row row' : ℕ → Option Row) (disk : DiskState)
+pub settle_step : (places : Places) (is_fixed : ℕ → Bool) (base : List ℕ) (kind kind' : ℕ → Kind) (row row' : ℕ → Option Row) (spot : ℕ → ℕ) (disk : DiskState)
     → IsLayout places is_fixed (length base) → ((i : ℕ) → i < entries places → kind' i ≡ settled_kind (kind i) (row i)) → ((i : ℕ) → i < entries places → row' i ≡ settled_row (row i))
-    → Facts places is_fixed base kind row disk → Facts places is_fixed base kind' row' (settled disk.reads)
-settle_step places is_fixed base kind kind' row row' disk layout kinds rows facts = record {
+    → Facts places is_fixed base kind row spot disk → Facts places is_fixed base kind' row' spot (settled disk.reads)
+settle_step places is_fixed base kind kind' row row' spot disk layout kinds rows facts = record {
   longer = omega arith;
   within = omega arith;
   short = omega (arith, facts.within, facts.short);
   long = omega (arith, facts.long, facts.longer);
   fixed = λ x fixed. (settled_clean disk.reads x (omega (arith, facts.longer, (facts.fixed x fixed).0.there)), (facts.fixed x fixed).1);
-  own = λ i lt. subst (λ (k : Kind). Own (settled disk.reads) places i k) (sym (kinds i lt)) (both i lt).0;
-  flight = λ i lt. subst (λ (k : Kind). InFlight (settled disk.reads) places i k (row' i)) (sym (kinds i lt))
-      (subst (λ (r : Option Row). InFlight (settled disk.reads) places i (settled_kind (kind i) (row i)) r) (sym (rows i lt)) (both i lt).1);
+  own = λ i lt. subst (λ (k : Kind). Own (settled disk.reads) places i (spot i) k) (sym (kinds i lt)) (both i lt).0;
+  flight = λ i lt. subst (λ (k : Kind). InFlight (settled disk.reads) places i (spot i) k (row' i)) (sym (kinds i lt))
+      (subst (λ (r : Option Row). InFlight (settled disk.reads) places i (spot i) (settled_kind (kind i) (row i)) r) (sym (rows i lt)) (both i lt).1);
 }
   where
-    both : (i : ℕ) → i < entries places → Own (settled disk.reads) places i (settled_kind (kind i) (row i)) × InFlight (settled disk.reads) places i (settled_kind (kind i) (row i)) (settled_row (row i))
-    both i lt = both_settled disk places i (kind i) (row i) facts.longer
+    both : (i : ℕ) → i < entries places → Own (settled disk.reads) places i (spot i) (settled_kind (kind i) (row i)) × InFlight (settled disk.reads) places i (spot i) (settled_kind (kind i) (row i)) (settled_row (row i))
+    both i lt = both_settled disk places i (spot i) (kind i) (row i) facts.longer
         (λ k small. let inside = entry_inside places is_fixed (length base) i k layout lt small in omega (arith, facts.long, facts.longer)) (facts.own i lt) (facts.flight i lt)
 
 -- fills that are given up
-pub release_keeps : (places : Places) (is_fixed : ℕ → Bool) (base : List ℕ) (kind : ℕ → Kind) (row row' : ℕ → Option Row) (disk : DiskState)
+pub release_keeps : (places : Places) (is_fixed : ℕ → Bool) (base : List ℕ) (kind : ℕ → Kind) (row row' : ℕ → Option Row) (spot : ℕ → ℕ) (disk : DiskState)
     → ((i : ℕ) → i < entries places → (row' i ≡ row i) ⊎ (row' i ≡ None))
-    → Facts places is_fixed base kind row disk → Facts places is_fixed base kind row' disk
-release_keeps places is_fixed base kind row row' disk stays facts = record {
+    → Facts places is_fixed base kind row spot disk → Facts places is_fixed base kind row' spot disk
+release_keeps places is_fixed base kind row row' spot disk stays facts = record {
   longer = facts.longer;
   within = facts.within;
   short = facts.short;
@@ -141,7 +149,7 @@ release_keeps places is_fixed base kind row row' disk stays facts = record {
   fixed = facts.fixed;
   own = facts.own;
   flight = λ i lt. elim (stays i lt) [
-    | inl same ↦ subst (λ (r : Option Row). InFlight disk places i (kind i) r) (sym same) (facts.flight i lt)
-    | inr none ↦ subst (λ (r : Option Row). InFlight disk places i (kind i) r) (sym none) tt
+    | inl same ↦ subst (λ (r : Option Row). InFlight disk places i (spot i) (kind i) r) (sym same) (facts.flight i lt)
+    | inr none ↦ subst (λ (r : Option Row). InFlight disk places i (spot i) (kind i) r) (sym none) tt
   ];
 }

@@ -3,8 +3,8 @@ use Rattle.std.proofs.Common.{◌≡◌, inl, inr, ℕ, ◌+◌, ◌-◌, ◌<�
 use Rattle.std.proofs.lemmas.Bool.{cases_lt}
 use Rattle.inc_tree.specs.Geometry.{data_blocks}
 use Rattle.inc_entry.specs.Entry.{Places, entries, entry_at, hash_place, map_span, tree_span}
-use Rattle.inc_layout.specs.Keeps.{IsLayout}
-use Rattle.inc_layout.specs.SameFixed.{in_spans}
+use Rattle.inc_entry.specs.Keeps.{IsLayout}
+use Rattle.inc_entry.specs.Spans.{in_spans}
 use Rattle.inc_fill.proofs.Areas.{InSpan, fixed_inside, spans_or_map, spans_or_tree, map_or_tree, in_map, entry_inside, fits_cases, block_or_spans, block_or_map, data_or_tree}
 use Rattle.inc_fill.proofs.Writes.{Outside, Misses, MissesBlocks}
 
@@ -54,10 +54,10 @@ end_spares_entry places is_fixed base n at i layout past within k small ge lt = 
 
 -- ---- a write of a hash block to its place
 
-tree_byte : (places : Places) (j at n x : ℕ) → data_blocks places.size ≤ j → j < entries places → at ≡ hash_place places j → n ≤ 4096 → at ≤ x → x < at + n → InSpan x (tree_span places)
+tree_byte : (places : Places) (j at n x : ℕ) → data_blocks places.shape ≤ j → j < entries places → at ≡ hash_place places j → n ≤ 4096 → at ≤ x → x < at + n → InSpan x (tree_span places)
 tree_byte places j at n x ge here is small from until = (omega arith, omega arith)
 
-other_block : (places : Places) (i j at n place k : ℕ) → data_blocks places.size ≤ i → data_blocks places.size ≤ j → at ≡ hash_place places j → place ≡ hash_place places i → n ≤ 4096 → k < 4096
+other_block : (places : Places) (i j at n place k : ℕ) → data_blocks places.shape ≤ i → data_blocks places.shape ≤ j → at ≡ hash_place places j → place ≡ hash_place places i → n ≤ 4096 → k < 4096
     → ¬ (i ≡ j) → Outside at n (place + k)
 other_block places i j at n place k hash_i hash_j is own small lt other ge until =
     elim (cases_lt i j) [
@@ -65,12 +65,12 @@ other_block places i j at n place k hash_i hash_j is own small lt other ge until
       | inr more ↦ elim (cases_lt j i) [ inl greater ↦ omega arith | inr equal ↦ other (omega arith) ]
     ]
 
-pub hash_spares_entry : (places : Places) (is_fixed : ℕ → Bool) (base j n at i : ℕ) → IsLayout places is_fixed base → data_blocks places.size ≤ j → j < entries places → at ≡ hash_place places j → n ≤ 4096
+pub hash_spares_entry : (places : Places) (is_fixed : ℕ → Bool) (base j n at i : ℕ) → IsLayout places is_fixed base → data_blocks places.shape ≤ j → j < entries places → at ≡ hash_place places j → n ≤ 4096
     → i < entries places → Misses at n (entry_at places i) 10
 hash_spares_entry places is_fixed base j n at i layout hash here is small within k lt ge until =
     map_or_tree places is_fixed base (entry_at places i + k) layout (in_map places i k within lt) (tree_byte places j at n (entry_at places i + k) hash here is small ge until)
 
-pub hash_spares : (places : Places) (is_fixed : ℕ → Bool) (base len j n at : ℕ) → IsLayout places is_fixed base → data_blocks places.size ≤ j → j < entries places → at ≡ hash_place places j → n ≤ 4096
+pub hash_spares : (places : Places) (is_fixed : ℕ → Bool) (base len j n at : ℕ) → IsLayout places is_fixed base → data_blocks places.shape ≤ j → j < entries places → at ≡ hash_place places j → n ≤ 4096
     → Spares places is_fixed len at n j
 hash_spares places is_fixed base len j n at layout hash here is small = record {
   fixed_out = λ x fixed ge lt. spans_or_tree places is_fixed base x layout (layout.fixed_in x fixed) (tree_byte places j at n x hash here is small ge lt);

@@ -3,13 +3,13 @@ use Rattle.std.proofs.Common.{◌≡◌, inl, inr, ℕ, ◌+◌, ◌*◌, ◌<�
 use Rattle.std.proofs.lemmas.Bool.{cases_lt, or_from}
 use Rattle.std.proofs.lemmas.Bool.Decides.{nat_tests}
 use Rattle.inc_tree.specs.Geometry.{block_len}
-use Rattle.inc_entry.specs.Entry.{Places, class_of, entry_at, entry_of, entry_size, fits, has_size, past_end}
+use Rattle.inc_entry.specs.Entry.{Places, class_of, entry_at, entry_from, entry_size, fits, has_size, past_end}
 use Rattle.inc_entry.specs.declared.classes.Class.{Class}
 use Rattle.inc_entry.specs.declared.classes.Class.TheVariants.{Compressed, Damaged}
 use Rattle.inc_disk.specs.Disk.{DiskState, IsTorn, in_range, is_dirty, touched}
-use Rattle.inc_layout.specs.Backing.{digest_at}
-use Rattle.inc_layout.specs.Keeps.{Kind, Acknowledged, Begun, KeptDamaged, KeptCompressed, Shut}
-use Rattle.inc_layout.proofs.EntryLemmas.{most_len}
+use Rattle.inc_entry.specs.Stored.{digest_at}
+use Rattle.inc_entry.specs.Keeps.{Kind, Acknowledged, Begun, KeptDamaged, KeptCompressed, Shut}
+use Rattle.inc_entry.proofs.BlockLemmas.{most_len}
 use Rattle.inc_fill.specs.Facts.{IsClean, CleanAt, entry_read, IsKeptOpen, IsStored, IsBehindGate, IsKeptShut, IsKeptClass, Own, Row, Stage, Written, Placed, Settled, Gated, HasBlock, AtStage, InFlight}
 use Rattle.inc_fill.proofs.Classes.{open_parts}
 use Rattle.inc_fill.proofs.Entries.{same_entry, same_offset, same_low, same_high, same_flags, same_digest}
@@ -58,7 +58,7 @@ range_kept disk at n bytes place count torn out clean k lt = clean_kept disk at 
 -- ---- blocks
 
 digest_kept : (disk : DiskState) (places : Places) (at n : ℕ) (bytes : List ℕ) (i place : ℕ) (digest : List ℕ) → IsTorn at n disk.reads bytes
-    → place + block_len places.size i ≤ length disk.reads → Misses at n place (block_len places.size i) → digest_at places disk.reads i place ≡ digest → digest_at places bytes i place ≡ digest
+    → place + block_len places.shape i ≤ length disk.reads → Misses at n place (block_len places.shape i) → digest_at places disk.reads i place ≡ digest → digest_at places bytes i place ≡ digest
 digest_kept disk places at n bytes i place digest torn there out block =
     same_digest places bytes disk.reads i place (omega (arith, torn.no_shorter)) there (λ k lt. torn_same at n disk.reads bytes (place + k) torn (out k lt)) ∙ block
 
@@ -67,7 +67,7 @@ pub stored_kept : (disk : DiskState) (places : Places) (at n : ℕ) (bytes : Lis
 stored_kept disk places at n bytes i place digest torn longer out blocks own =
     let there : place + 4096 ≤ length disk.reads = omega (arith, (own.stored 4095 (omega arith)).there) in
     let miss = blocks place 4096 (omega arith) own.here there in
-    let most = most_len places.size i in
+    let most = most_len places.shape i in
     record {
       stored = range_kept disk at n bytes place 4096 torn miss own.stored;
       offset = range_kept disk at n bytes (entry_at places i) 6 torn out own.offset;
@@ -98,7 +98,7 @@ shut_kept disk places at n bytes i torn out own =
     let flags_out : Misses at n (entry_at places i + 8) 2 = λ k small ge lt. out (2 + k) (omega arith) (omega arith) (omega arith) in
     let low = same_low bytes disk.reads (entry_at places i) (torn_same at n disk.reads bytes (entry_at places i + 6) torn low_out) in
     let high = same_high bytes disk.reads (entry_at places i) (torn_same at n disk.reads bytes (entry_at places i + 7) torn gate_out) in
-    let size : entry_size (entry_of bytes (entry_at places i)) ≡ entry_size (entry_read disk places i) = same_size _ _ _ _ low high in
+    let size : entry_size (entry_from bytes (entry_at places i)) ≡ entry_size (entry_read disk places i) = same_size _ _ _ _ low high in
     record {
       behind = behind_kept disk places at n bytes i torn low_out flags_out own.behind;
       gate_clean = clean_kept disk at n bytes (entry_at places i + 7) torn gate_out own.gate_clean;
@@ -108,24 +108,23 @@ shut_kept disk places at n bytes i torn out own =
 -- ---- an index whose own bytes the write misses
 
 read_kept : (disk : DiskState) (places : Places) (at n : ℕ) (bytes : List ℕ) (i : ℕ) → IsTorn at n disk.reads bytes → Misses at n (entry_at places i) 10
-    → entry_of bytes (entry_at places i) ≡ entry_read disk places i
+    → entry_from bytes (entry_at places i) ≡ entry_read disk places i
 read_kept disk places at n bytes i torn out = same_entry bytes disk.reads (entry_at places i) (λ k lt. torn_same at n disk.reads bytes (entry_at places i + k) torn (out k lt))
 
-open_kept : (disk : DiskState) (places : Places) (at n : ℕ) (bytes : List ℕ) (i : ℕ) (digest : List ℕ) → IsTorn at n disk.reads bytes → length disk.synced ≤ length disk.reads
-    → Misses at n (entry_at places i) 10 → MissesBlocks places (length disk.reads) at n i → IsKeptOpen disk places i digest → IsKeptOpen (touched at n bytes disk) places i digest
-open_kept disk places at n bytes i digest torn longer out blocks own =
-    let parts = open_parts places (length disk.synced) i (entry_read disk places i) own.place own.size own.open_at in
-    let there : own.place + own.size ≤ length disk.reads = omega (arith, parts.inside, parts.offset, parts.sized) in
-    let miss = blocks own.place own.size parts.most parts.here there in
-    let least : block_len places.size i ≤ own.size = parts.least in
-    let miss_own : Misses at n own.place (block_len places.size i) = λ k lt. miss k (omega arith) in
+open_kept : (disk : DiskState) (places : Places) (at n : ℕ) (bytes : List ℕ) (i place : ℕ) (digest : List ℕ) → IsTorn at n disk.reads bytes → length disk.synced ≤ length disk.reads
+    → Misses at n (entry_at places i) 10 → MissesBlocks places (length disk.reads) at n i → IsKeptOpen disk places i place digest → IsKeptOpen (touched at n bytes disk) places i place digest
+open_kept disk places at n bytes i place digest torn longer out blocks own =
+    let parts = open_parts places (length disk.synced) i (entry_read disk places i) place own.size own.open_at in
+    let there : place + own.size ≤ length disk.reads = omega (arith, parts.inside, parts.offset, parts.sized) in
+    let miss = blocks place own.size parts.most parts.here there in
+    let least : block_len places.shape i ≤ own.size = parts.least in
+    let miss_own : Misses at n place (block_len places.shape i) = λ k lt. miss k (omega arith) in
     record {
-      place = own.place;
       size = own.size;
       entry = range_kept disk at n bytes (entry_at places i) 10 torn out own.entry;
       open_at = ap (class_of places (length disk.synced) i) (read_kept disk places at n bytes i torn out) ∙ own.open_at;
-      stored = range_kept disk at n bytes own.place (block_len places.size i) torn miss_own own.stored;
-      block = digest_kept disk places at n bytes i own.place digest torn (omega arith) miss_own own.block;
+      stored = range_kept disk at n bytes place (block_len places.shape i) torn miss_own own.stored;
+      block = digest_kept disk places at n bytes i place digest torn (omega arith) miss_own own.block;
     }
 
 class_kept : (disk : DiskState) (places : Places) (at n : ℕ) (bytes : List ℕ) (i : ℕ) (class : Class) → IsTorn at n disk.reads bytes
@@ -150,22 +149,21 @@ low_missed at n place out ge lt = out 6 (omega arith) ge lt
 flags_missed : (at n place : ℕ) → Misses at n place 10 → Misses at n (place + 8) 2
 flags_missed at n place out k small ge lt = out (8 + k) (omega arith) (omega arith) (omega arith)
 
-pub own_kept : (disk : DiskState) (places : Places) (at n : ℕ) (bytes : List ℕ) (i : ℕ) (kind : Kind) → IsTorn at n disk.reads bytes → length disk.synced ≤ length disk.reads
-    → Misses at n (entry_at places i) 10 → MissesBlocks places (length disk.reads) at n i → Own disk places i kind → Own (touched at n bytes disk) places i kind
-own_kept disk places at n bytes i (Acknowledged digest) torn longer out blocks own = open_kept disk places at n bytes i digest torn longer out blocks own
-own_kept disk places at n bytes i (Begun digest) torn longer out blocks own = record {
-  place = own.place;
-  ready = stored_kept disk places at n bytes i own.place digest torn longer (front_missed at n (entry_at places i) out) blocks own.ready;
+pub own_kept : (disk : DiskState) (places : Places) (at n : ℕ) (bytes : List ℕ) (i place : ℕ) (kind : Kind) → IsTorn at n disk.reads bytes → length disk.synced ≤ length disk.reads
+    → Misses at n (entry_at places i) 10 → MissesBlocks places (length disk.reads) at n i → Own disk places i place kind → Own (touched at n bytes disk) places i place kind
+own_kept disk places at n bytes i place (Acknowledged digest) torn longer out blocks own = open_kept disk places at n bytes i place digest torn longer out blocks own
+own_kept disk places at n bytes i place (Begun digest) torn longer out blocks own = record {
+  ready = stored_kept disk places at n bytes i place digest torn longer (front_missed at n (entry_at places i) out) blocks own.ready;
   behind = behind_kept disk places at n bytes i torn (low_missed at n (entry_at places i) out) (flags_missed at n (entry_at places i) out) own.behind;
 }
-own_kept disk places at n bytes i KeptDamaged torn longer out blocks own = class_kept disk places at n bytes i Damaged torn out own
-own_kept disk places at n bytes i KeptCompressed torn longer out blocks own = class_kept disk places at n bytes i Compressed torn out own
-own_kept disk places at n bytes i Shut torn longer out blocks own = shut_kept disk places at n bytes i torn (back_missed at n (entry_at places i) out) own
+own_kept disk places at n bytes i place KeptDamaged torn longer out blocks own = class_kept disk places at n bytes i Damaged torn out own
+own_kept disk places at n bytes i place KeptCompressed torn longer out blocks own = class_kept disk places at n bytes i Compressed torn out own
+own_kept disk places at n bytes i place Shut torn longer out blocks own = shut_kept disk places at n bytes i torn (back_missed at n (entry_at places i) out) own
 
 pub block_kept : (disk : DiskState) (places : Places) (at n : ℕ) (bytes : List ℕ) (i place : ℕ) (digest : List ℕ) → IsTorn at n disk.reads bytes
     → MissesBlocks places (length disk.reads) at n i → HasBlock disk places i place digest → HasBlock (touched at n bytes disk) places i place digest
 block_kept disk places at n bytes i place digest torn blocks has =
-    let most = most_len places.size i in
+    let most = most_len places.shape i in
     let miss = blocks place 4096 (omega arith) has.here has.there in
     record {
       some = has.some;
@@ -174,20 +172,20 @@ block_kept disk places at n bytes i place digest torn blocks has =
       block = digest_kept disk places at n bytes i place digest torn (omega (arith, has.there)) (λ k lt. miss k (omega arith)) has.block;
     }
 
-stage_kept : (disk : DiskState) (places : Places) (at n : ℕ) (bytes : List ℕ) (i : ℕ) (kind : Kind) (place : ℕ) (digest : List ℕ) (stage : Stage) → IsTorn at n disk.reads bytes
+stage_kept : (disk : DiskState) (places : Places) (at n : ℕ) (bytes : List ℕ) (i place : ℕ) (kind : Kind) (digest : List ℕ) (stage : Stage) → IsTorn at n disk.reads bytes
     → length disk.synced ≤ length disk.reads → Misses at n (entry_at places i) 10 → MissesBlocks places (length disk.reads) at n i
-    → AtStage disk places i kind place digest stage → AtStage (touched at n bytes disk) places i kind place digest stage
-stage_kept disk places at n bytes i kind place digest Written torn longer out blocks at_stage = at_stage
-stage_kept disk places at n bytes i kind place digest Placed torn longer out blocks at_stage =
+    → AtStage disk places i place kind digest stage → AtStage (touched at n bytes disk) places i place kind digest stage
+stage_kept disk places at n bytes i place kind digest Written torn longer out blocks at_stage = at_stage
+stage_kept disk places at n bytes i place kind digest Placed torn longer out blocks at_stage =
     (at_stage.0, same_offset bytes disk.reads (entry_at places i) (λ k lt. torn_same at n disk.reads bytes (entry_at places i + k) torn (front_missed at n (entry_at places i) out k lt)) ∙ at_stage.1)
-stage_kept disk places at n bytes i kind place digest Settled torn longer out blocks at_stage =
+stage_kept disk places at n bytes i place kind digest Settled torn longer out blocks at_stage =
     (at_stage.0, stored_kept disk places at n bytes i place digest torn longer (front_missed at n (entry_at places i) out) blocks at_stage.1)
-stage_kept disk places at n bytes i kind place digest Gated torn longer out blocks at_stage =
+stage_kept disk places at n bytes i place kind digest Gated torn longer out blocks at_stage =
     (at_stage.0, same_high bytes disk.reads (entry_at places i) (torn_same at n disk.reads bytes (entry_at places i + 7) torn (out 7 (omega arith))) ∙ at_stage.1)
 
-pub flight_kept : (disk : DiskState) (places : Places) (at n : ℕ) (bytes : List ℕ) (i : ℕ) (kind : Kind) (row : Option Row) → IsTorn at n disk.reads bytes
+pub flight_kept : (disk : DiskState) (places : Places) (at n : ℕ) (bytes : List ℕ) (i place : ℕ) (kind : Kind) (row : Option Row) → IsTorn at n disk.reads bytes
     → length disk.synced ≤ length disk.reads → Misses at n (entry_at places i) 10 → MissesBlocks places (length disk.reads) at n i
-    → InFlight disk places i kind row → InFlight (touched at n bytes disk) places i kind row
-flight_kept disk places at n bytes i kind None torn longer out blocks has = tt
-flight_kept disk places at n bytes i kind (Some row) torn longer out blocks has =
-    (block_kept disk places at n bytes i row.place row.digest torn blocks has.0, stage_kept disk places at n bytes i kind row.place row.digest row.stage torn longer out blocks has.1)
+    → InFlight disk places i place kind row → InFlight (touched at n bytes disk) places i place kind row
+flight_kept disk places at n bytes i place kind None torn longer out blocks has = tt
+flight_kept disk places at n bytes i place kind (Some row) torn longer out blocks has =
+    (block_kept disk places at n bytes i place row.digest torn blocks has.0, stage_kept disk places at n bytes i place kind row.digest row.stage torn longer out blocks has.1)

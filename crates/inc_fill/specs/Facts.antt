@@ -4,13 +4,13 @@
 -- the bytes of its block alone: so a write to the bytes of one index keeps the facts of all others, however many fills are on their way.
 use Rattle.std.specs.Prelude.{◌≡◌, ◌⊎◌, ℕ, ◌+◌, ◌^◌, ◌<◌, ◌≤◌, Bool, true, false, List, length, slice_index, Option, Some, None}
 use Rattle.inc_tree.specs.Geometry.{block_len}
-use Rattle.inc_entry.specs.Entry.{Places, class_of, entries, entry_at, entry_of, entry_size, fits, has_size, past_end}
+use Rattle.inc_entry.specs.Entry.{Places, class_of, entries, entry_at, entry_from, entry_size, fits, has_size, past_end}
 use Rattle.inc_entry.specs.declared.classes.Class.{Class}
 use Rattle.inc_entry.specs.declared.classes.Class.TheVariants.{OpenAt, Compressed, Damaged}
 use Rattle.inc_entry.specs.declared.entry.Entry.{Entry}
 use Rattle.inc_disk.specs.Disk.{DiskState, is_dirty}
-use Rattle.inc_layout.specs.Backing.{digest_at}
-use Rattle.inc_layout.specs.Keeps.{Kind, Acknowledged, Begun, KeptDamaged, KeptCompressed, Shut}
+use Rattle.inc_entry.specs.Stored.{digest_at}
+use Rattle.inc_entry.specs.Keeps.{Kind, Acknowledged, Begun, KeptDamaged, KeptCompressed, Shut}
 
 -- every crash leaves this byte as a read gives it
 pub record IsClean (disk : DiskState) (j : ℕ) : Type 0 where
@@ -23,7 +23,7 @@ CleanAt disk at n = (k : ℕ) → k < n → IsClean disk (at + k)
 
 -- the entry of an index, as the disk reads
 abbrev pub entry_read : DiskState → Places → ℕ → Entry
-entry_read disk places i = entry_of disk.reads (entry_at places i)
+entry_read disk places i = entry_from disk.reads (entry_at places i)
 
 abbrev pub class_synced : DiskState → Places → ℕ → Class
 class_synced disk places i = class_of places (length disk.synced) i (entry_read disk places i)
@@ -31,12 +31,11 @@ class_synced disk places i = class_of places (length disk.synced) i (entry_read 
 -- ---- the own bytes of an index
 
 -- a block that is there for good
-pub record IsKeptOpen (disk : DiskState) (places : Places) (i : ℕ) (digest : List ℕ) : Type 0 where
-  pub place : ℕ
+pub record IsKeptOpen (disk : DiskState) (places : Places) (i place : ℕ) (digest : List ℕ) : Type 0 where
   pub size : ℕ
   pub entry : CleanAt disk (entry_at places i) 10
   pub open_at : class_synced disk places i ≡ OpenAt place size
-  pub stored : CleanAt disk place (block_len places.size i)
+  pub stored : CleanAt disk place (block_len places.shape i)
   pub block : digest_at places disk.reads i place ≡ digest
 
 -- block and offset are clean: once the gate opens, this block is there
@@ -56,8 +55,7 @@ pub record IsBehindGate (disk : DiskState) (places : Places) (i : ℕ) : Type 0 
   pub flags : (entry_read disk places i).flags ≡ 0
 
 -- a block whose gate's write has begun: the gate may hold anything
-pub record IsKeptBegun (disk : DiskState) (places : Places) (i : ℕ) (digest : List ℕ) : Type 0 where
-  pub place : ℕ
+pub record IsKeptBegun (disk : DiskState) (places : Places) (i place : ℕ) (digest : List ℕ) : Type 0 where
   pub ready : IsStored disk places i place digest
   pub behind : IsBehindGate disk places i
 
@@ -74,12 +72,13 @@ pub record IsKeptClass (disk : DiskState) (places : Places) (i : ℕ) (class : C
   -- in a longer file it would not be open
   pub not_past : past_end places (length disk.synced) i (entry_read disk places i) ≡ false
 
-abbrev pub Own : DiskState → Places → ℕ → Kind → Type 0
-Own disk places i (Acknowledged digest) = IsKeptOpen disk places i digest
-Own disk places i (Begun digest) = IsKeptBegun disk places i digest
-Own disk places i KeptDamaged = IsKeptClass disk places i Damaged
-Own disk places i KeptCompressed = IsKeptClass disk places i Compressed
-Own disk places i Shut = IsKeptShut disk places i
+-- `place` is where the block of the index is
+abbrev pub Own : DiskState → Places → ℕ → ℕ → Kind → Type 0
+Own disk places i place (Acknowledged digest) = IsKeptOpen disk places i place digest
+Own disk places i place (Begun digest) = IsKeptBegun disk places i place digest
+Own disk places i place KeptDamaged = IsKeptClass disk places i Damaged
+Own disk places i place KeptCompressed = IsKeptClass disk places i Compressed
+Own disk places i place Shut = IsKeptShut disk places i
 
 -- ---- fills on their way
 
@@ -91,12 +90,11 @@ pub data Stage : Type 0 where
   Gated : Stage
 
 pub record Row : Type 0 where
-  pub place : ℕ
   pub digest : List ℕ
   pub stage : Stage
 
-abbrev pub row_at : ℕ → List ℕ → Stage → Row
-row_at place digest stage = record { place = place; digest = digest; stage = stage }
+abbrev pub row_at : List ℕ → Stage → Row
+row_at digest stage = record { digest = digest; stage = stage }
 
 -- the block is at its place, as the disk reads
 pub record HasBlock (disk : DiskState) (places : Places) (i place : ℕ) (digest : List ℕ) : Type 0 where
@@ -105,27 +103,28 @@ pub record HasBlock (disk : DiskState) (places : Places) (i place : ℕ) (digest
   pub there : place + 4096 ≤ length disk.reads
   pub block : digest_at places disk.reads i place ≡ digest
 
-abbrev pub AtStage : DiskState → Places → ℕ → Kind → ℕ → List ℕ → Stage → Type 0
-AtStage disk places i kind place digest Written = kind ≡ Shut
-AtStage disk places i kind place digest Placed = (kind ≡ Shut) × ((entry_read disk places i).offset ≡ place)
+abbrev pub AtStage : DiskState → Places → ℕ → ℕ → Kind → List ℕ → Stage → Type 0
+AtStage disk places i place kind digest Written = kind ≡ Shut
+AtStage disk places i place kind digest Placed = (kind ≡ Shut) × ((entry_read disk places i).offset ≡ place)
 -- a gate's write that failed leaves its index begun
-AtStage disk places i kind place digest Settled = ((kind ≡ Shut) ⊎ (kind ≡ Begun digest)) × IsStored disk places i place digest
-AtStage disk places i kind place digest Gated = (kind ≡ Begun digest) × ((entry_read disk places i).high ≡ 16)
+AtStage disk places i place kind digest Settled = ((kind ≡ Shut) ⊎ (kind ≡ Begun digest)) × IsStored disk places i place digest
+AtStage disk places i place kind digest Gated = (kind ≡ Begun digest) × ((entry_read disk places i).high ≡ 16)
 
-abbrev pub InFlight : DiskState → Places → ℕ → Kind → Option Row → Type 0
-InFlight disk places i kind None = Unit {0}
-InFlight disk places i kind (Some row) = HasBlock disk places i row.place row.digest × AtStage disk places i kind row.place row.digest row.stage
+abbrev pub InFlight : DiskState → Places → ℕ → ℕ → Kind → Option Row → Type 0
+InFlight disk places i place kind None = Unit {0}
+InFlight disk places i place kind (Some row) = HasBlock disk places i place row.digest × AtStage disk places i place kind row.digest row.stage
 
 -- ---- the disk of a file in which any number of indices are being filled. `base` is the file as it was opened, of which the fixed
--- bytes stay
-pub record Facts (places : Places) (is_fixed : ℕ → Bool) (base : List ℕ) (kind : ℕ → Kind) (row : ℕ → Option Row) (disk : DiskState) : Type 0 where
+-- bytes stay. `spot` is where the block of each index is: a write of another block moves none, so a place that is known once stays known.
+-- `kind` and `row` may say more than the one who fills goes by: a row behind a written gate may outlive its fill until the next sync.
+pub record Facts (places : Places) (is_fixed : ℕ → Bool) (base : List ℕ) (kind : ℕ → Kind) (row : ℕ → Option Row) (spot : ℕ → ℕ) (disk : DiskState) : Type 0 where
   pub longer : length disk.synced ≤ length disk.reads
   pub within : length disk.reads ≤ disk.longest
   pub short : disk.longest ≤ 2 ^ 47
   pub long : length base ≤ length disk.synced
   pub fixed : (j : ℕ) → is_fixed j ≡ true → IsClean disk j × (slice_index disk.reads j ≡ slice_index base j)
-  pub own : (i : ℕ) → i < entries places → Own disk places i (kind i)
-  pub flight : (i : ℕ) → i < entries places → InFlight disk places i (kind i) (row i)
+  pub own : (i : ℕ) → i < entries places → Own disk places i (spot i) (kind i)
+  pub flight : (i : ℕ) → i < entries places → InFlight disk places i (spot i) (kind i) (row i)
 
 -- two functions of an index differ at one index at most
 abbrev pub SameBut : {T : Type 0} → ℕ → (ℕ → T) → (ℕ → T) → Type 0
@@ -141,7 +140,7 @@ settled_kind kind None = kind
 settled_kind kind (Some row) = kind_at kind row row.stage
 
 abbrev pub row_after : Row → Stage → Option Row
-row_after row Placed = Some (row_at row.place row.digest Settled)
+row_after row Placed = Some (row_at row.digest Settled)
 row_after row Gated = None
 row_after row stage = Some row
 

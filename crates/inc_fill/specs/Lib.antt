@@ -1,3 +1,3 @@
 pub mod Facts
-pub mod Mounted
+pub mod Laws
 pub mod Steps

@@ -5,15 +5,16 @@
 //! leave is kept, whatever other fills are on their way. So after a crash a block is there whole or not at all.
 #![tactic(auto)]
 
-mod filling;
 mod laws;
 mod padding;
 mod status;
 mod steps;
 
-pub use filling::fill_one;
 pub use inc_tree::Block;
-pub use laws::{a_release_keeps_the_facts, kept_images_preserve, opened_files_can_be_filled};
+pub use laws::{
+    a_release_keeps_the_facts, a_weaker_kind_is_kept_too, open_blocks_are_read_at_their_spots,
+    settled_files_can_be_filled,
+};
 pub use padding::padded;
 pub use status::write_status;
 pub use steps::{open_gate, settle, write_data, write_place};

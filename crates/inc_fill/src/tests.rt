@@ -1,18 +1,16 @@
 ghost use Rattle.std.specs.Prelude.{◌+◌, ◌<◌, ◌≤◌, length, IfSome, IsTrue};
 ghost use Rattle.inc_disk.specs.Disk.{reads_of};
 
-mod files;
-
-use crate::{Block, fill_one, open_gate, padded, settle, write_data, write_place, write_status};
-use files::{ONE, TWO, ZEROS_DIGEST};
+use crate::{Block, open_gate, padded, settle, write_data, write_place, write_status};
 use inc_disk::MemDisk;
-use inc_entry::Class;
 use inc_io::{Bytes, Failed};
-use inc_layout::{Opened, open_layout};
 use std::alloc::Global;
 use std::test::Fail;
 
 const NEAR: u64 = 1_000_000;
+
+/// What stands before the entries.
+const FRONT: [u8; 250] = [0x11; 250];
 
 /// A disk with a file of so many bytes: this front, and zeros.
 fn disk_of(alloc: Global, front: &[u8], len: usize) -> Result<MemDisk, Fail> {
@@ -35,14 +33,31 @@ fn is_place(disk: &MemDisk, at: u64) -> bool
     at < NEAR && at <= disk.bytes().len() as u64
 }
 
-fn fill(disk: &mut MemDisk, entry_at: u64, place: u64, block: &Block) -> Result<(), Failed> {
-    if !has_room(disk, entry_at) {
-        return Err(Failed);
-    }
+/// The calls of a fill up to the gate's write, or those before the first that fails.
+fn gate_written(
+    disk: &mut MemDisk,
+    entry_at: u64,
+    place: u64,
+    block: &Block,
+) -> Result<(), Failed> {
     if !is_place(disk, place) {
         return Err(Failed);
     }
-    fill_one(disk, entry_at, place, block)
+    write_data(disk, place, block)?;
+    if !has_room(disk, entry_at) {
+        return Err(Failed);
+    }
+    write_place(disk, entry_at, place)?;
+    settle(disk)?;
+    if !has_room(disk, entry_at) {
+        return Err(Failed);
+    }
+    open_gate(disk, entry_at)
+}
+
+fn fill(disk: &mut MemDisk, entry_at: u64, place: u64, block: &Block) -> Result<(), Failed> {
+    gate_written(disk, entry_at, place, block)?;
+    settle(disk)
 }
 
 /// Whether the disk has these bytes from a place on.
@@ -53,86 +68,82 @@ fn holds(disk: &MemDisk, at: usize, wanted: &[u8]) -> bool {
     }
 }
 
+/// Whether it has this byte so often from a place on.
+fn repeats(disk: &MemDisk, at: usize, count: usize, byte: u8) -> bool {
+    match disk.bytes().get(at..at.saturating_add(count)) {
+        Some(part) => part.iter().all(|other| *other == byte),
+        None => false,
+    }
+}
+
+/// The block that is stored where `count` bytes were sent for one of `len`.
+fn block_of(alloc: Global, byte: u8, count: usize, len: u32) -> Result<Block, Fail> {
+    let mut sent = Vec::new(alloc);
+    sent.resize(count, byte)?;
+    if len > 4096 {
+        return Err("a block's length".into());
+    }
+    Ok(padded(alloc, sent.as_slice(), len)?)
+}
+
 #[test]
 fn a_filled_block_stands_at_the_end(rt: HostRuntime) -> Result<(), Fail> {
     let alloc = rt.alloc();
-    let mut disk = disk_of(alloc, &ONE, 260)?;
-    let block = padded(alloc, &[0; 4096], 4096)?;
+    let mut disk = disk_of(alloc, &FRONT, 260)?;
+    let block = block_of(alloc, 0x21, 4096, 4096)?;
     fill(&mut disk, 250, 260, &block)?;
     assert_eq!(rt; disk.made(), 5);
     assert_eq!(rt; disk.bytes().len(), 4356);
-    assert!(rt; holds(&disk, 0, &ONE));
+    assert!(rt; holds(&disk, 0, &FRONT));
     assert!(rt; holds(&disk, 250, &[4, 1, 0, 0, 0, 0, 0, 0x10, 0, 0]));
-    assert!(rt; holds(&disk, 260, &[0; 4096]));
+    assert!(rt; repeats(&disk, 260, 4096, 0x21));
     assert!(rt; disk.synced() == disk.bytes());
     Ok(())
 }
 
+/// Whether a last block of 904 bytes is stored with zeros, of which this many were sent.
+fn stored_with_zeros(alloc: Global, sent: usize) -> Result<bool, Fail> {
+    let mut disk = disk_of(alloc, &FRONT, 8192)?;
+    fill(&mut disk, 260, 8192, &block_of(alloc, 0x5a, sent, 904)?)?;
+    let len = disk.bytes().len();
+    Ok(len == 12288 && repeats(&disk, 8192, 904, 0x5a) && repeats(&disk, 9096, 3192, 0))
+}
+
 #[test]
 fn the_last_block_is_stored_with_zeros(rt: HostRuntime) -> Result<(), Fail> {
-    let alloc = rt.alloc();
-    let sent = [0x5a; 4096];
-    for count in [904usize, 4096] {
-        let mut disk = disk_of(alloc, &TWO, 8192)?;
-        let bytes = sent.get(..count).ok_or("4096 bytes")?;
-        let block = padded(alloc, bytes, 904)?;
-        fill(&mut disk, 260, 8192, &block)?;
-        assert_eq!(rt; disk.bytes().len(), 12288);
-        assert!(rt; holds(&disk, 8192, &[0x5a; 904]));
-        assert!(rt; holds(&disk, 9096, &[0; 3192]));
-    }
+    assert!(rt; stored_with_zeros(rt.alloc(), 904)?);
+    assert!(rt; stored_with_zeros(rt.alloc(), 4096)?);
     Ok(())
 }
 
-/// The steps up to the gate's write, without the sync after it.
-fn gate_written(disk: &mut MemDisk, block: &Block) -> Result<(), Failed> {
-    if !is_place(disk, 260) {
-        return Err(Failed);
+/// Whether the gate's byte is kept back, and the bytes around it aren't.
+fn is_gate_alone_dirty(disk: &MemDisk, entry_at: u64) -> bool
+    requires { entry_at < 1000000 }
+{
+    for k in 0..10 {
+        if disk.dirty(entry_at + k) != (k == 7) {
+            return false;
+        }
     }
-    write_data(disk, 260, block)?;
-    if !has_room(disk, 250) {
-        return Err(Failed);
-    }
-    write_place(disk, 250, 260)?;
-    settle(disk)?;
-    if !has_room(disk, 250) {
-        return Err(Failed);
-    }
-    open_gate(disk, 250)
-}
-
-/// What a crash inside the gate's write leaves where it left this byte.
-fn after_torn_gate(alloc: Global, byte: u8) -> Result<Opened, Fail> {
-    let mut disk = disk_of(alloc, &ONE, 260)?;
-    let block = padded(alloc, &[0; 4096], 4096)?;
-    gate_written(&mut disk, &block)?;
-    let mut image = disk.bytes().to_vec(alloc)?;
-    *image.get_mut(257).ok_or("an entry")? = byte;
-    let Ok(mut crashed) = disk.crash(Bytes::from_vec(image)) else {
-        return Err(Fail::from("an image"));
-    };
-    Ok(open_layout(alloc, &mut crashed)?)
+    true
 }
 
 #[test]
-fn a_torn_gate_reads_as_open_or_closed(rt: HostRuntime) -> Result<(), Fail> {
+fn a_written_gate_is_one_byte_on_its_way(rt: HostRuntime) -> Result<(), Fail> {
     let alloc = rt.alloc();
-    let open = after_torn_gate(alloc, 0x10)?;
-    let place = Class::OpenAt {
-        place: 260,
-        len: 4096,
-    };
-    assert_eq!(rt; open.classes.as_slice().first(), Some(&place));
-    assert_eq!(rt; open.digests.as_slice().first(), Some(&Some(ZEROS_DIGEST)));
-    let closed = after_torn_gate(alloc, 0x73)?;
-    assert_eq!(rt; closed.classes.as_slice().first(), Some(&Class::Closed));
+    let mut disk = disk_of(alloc, &FRONT, 260)?;
+    let block = block_of(alloc, 0x21, 4096, 4096)?;
+    gate_written(&mut disk, 250, 260, &block)?;
+    assert_eq!(rt; disk.made(), 4);
+    assert!(rt; is_gate_alone_dirty(&disk, 250));
+    assert_eq!(rt; disk.synced().len(), 4356);
     Ok(())
 }
 
 #[test]
 fn the_counts_stand_in_their_order(rt: HostRuntime) -> Result<(), Fail> {
     let alloc = rt.alloc();
-    let mut disk = disk_of(alloc, &TWO, 8192)?;
+    let mut disk = disk_of(alloc, &FRONT, 8192)?;
     assert!(rt; is_place(&disk, 161));
     write_status(&mut disk, 161, 2, 1)?;
     assert!(rt; holds(&disk, 161, &[2, 0, 0, 0, 1, 0, 0, 0]));
@@ -143,8 +154,8 @@ fn the_counts_stand_in_their_order(rt: HostRuntime) -> Result<(), Fail> {
 #[test]
 fn a_fill_ends_at_its_first_fault(rt: HostRuntime) -> Result<(), Fail> {
     let alloc = rt.alloc();
-    let mut disk = disk_of(alloc, &ONE, 260)?;
-    let block = padded(alloc, &[0; 4096], 4096)?;
+    let mut disk = disk_of(alloc, &FRONT, 260)?;
+    let block = block_of(alloc, 0x21, 4096, 4096)?;
     disk.allow(2);
     assert!(rt; fill(&mut disk, 250, 260, &block).is_err());
     assert_eq!(rt; disk.made(), 3);

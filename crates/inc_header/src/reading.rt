@@ -5,7 +5,7 @@ ghost use Rattle.inc_header.specs.Header.{IsHeader, header_bytes, header_tests, 
 ghost use Rattle.inc_header.specs.declared.header.Header.{Header};
 
 use crate::header::{Header, HeaderFault, HeaderKind};
-use inc_bytes::{get_u16, get_u32, get_u64};
+use inc_bytes::{u16_at, u32_at, u64_at};
 
 /// The number of a header's bytes.
 pub const HEADER_LEN: usize = 56;
@@ -23,27 +23,6 @@ pub const BLOCK_SIZE: u16 = 4096;
 pub const PLAIN: u32 = 0;
 
 pub const MAPPED: u32 = 2;
-
-fn u16_at(b: &[u8], at: usize) -> u16
-    requires place { at + 2 ≤ length b.now }
-    ensures value { result ≡ field 2 at b.now }
-{
-    get_u16(b, at).unwrap()
-}
-
-fn u32_at(b: &[u8], at: usize) -> u32
-    requires place { at + 4 ≤ length b.now }
-    ensures value { result ≡ field 4 at b.now }
-{
-    get_u32(b, at).unwrap()
-}
-
-fn u64_at(b: &[u8], at: usize) -> u64
-    requires place { at + 8 ≤ length b.now }
-    ensures value { result ≡ field 8 at b.now }
-{
-    get_u64(b, at).unwrap()
-}
 
 /// Whether a mapped file may begin at this offset and have this size.
 fn can_map(offset: u64, size: u64) -> bool

@@ -16,6 +16,10 @@ pub trait Backing {
     /// How often a call has failed.
     ghost faults: { Self → ℕ };
 
+    /// The count of faults as a number, so that code that is generic over files can answer it.
+    fn fault_count(&self) -> u64
+        ensures value { result ≡ faults self.now };
+
     /// The file's length in bytes.
     fn len(&mut self) -> Result<u64, Failed>
         ensures told { IfSome (reads (kept self.old)) (λ bytes. IfOk result (λ len. len ≡ length bytes)) }

@@ -5,13 +5,18 @@
 #![tactic(auto)]
 
 mod backing;
+mod bell;
 mod bytes;
 mod clock;
 mod failed;
+mod gate;
+mod memory_bell;
 mod memory_file;
 mod memory_sink;
 mod memory_source;
 mod name;
+mod open_gate;
+mod part;
 mod schedule;
 mod shelf;
 mod sink;
@@ -19,13 +24,18 @@ mod source;
 mod step_clock;
 
 pub use backing::Backing;
+pub use bell::Bell;
 pub use bytes::Bytes;
 pub use clock::Clock;
 pub use failed::{Failed, LendFault};
+pub use gate::Gate;
+pub use memory_bell::MemBell;
 pub use memory_file::MemFile;
 pub use memory_sink::MemSink;
 pub use memory_source::MemSource;
 pub use name::{Name, NameList};
+pub use open_gate::OpenGate;
+pub use part::copy_part;
 pub use schedule::Schedule;
 pub use shelf::ReadShelf;
 pub use sink::Sink;

@@ -1,7 +1,7 @@
 ghost use Rattle.std.specs.Prelude.{◌≡◌, ◌==◌, ◌≤◌, ◌+◌, ◌-◌, ◌++◌, length, take, drop, min, is_err, IfOk, Some};
 ghost use Rattle.inc_io.specs.Causes.{HasCause};
 
-use crate::{Backing, Bytes, Failed};
+use crate::{Backing, Bytes, Failed, copy_part};
 
 /// A file in memory, for tests.
 #[derive(Drop)]
@@ -23,13 +23,6 @@ impl MemFile {
             calls,
             faults: 0,
         }
-    }
-
-    /// How often a call has failed.
-    pub fn faults(&self) -> u64
-        ensures value { result ≡ self.now.faults }
-    {
-        self.faults
     }
 
     /// Counts a call, and says whether it fails.
@@ -57,6 +50,10 @@ impl Backing for MemFile {
 
     ghost faults = { λ file. file.faults };
 
+    fn fault_count(&self) -> u64 {
+        self.faults
+    }
+
     fn len(&mut self) -> Result<u64, Failed>
         ensures told { IfOk result (λ len. len ≡ length self.old.bytes) }
         ensures kept { self.new.bytes ≡ self.old.bytes }
@@ -80,19 +77,6 @@ impl Backing for MemFile {
         ensures counted { self.new.calls ≡ self.old.calls - 1 }
     {
         self.call()?;
-        Ok(copy_from(self.bytes.as_slice(), at, room))
+        Ok(copy_part(self.bytes.as_slice(), at, room))
     }
-}
-
-/// Fills the front of the room with the bytes from a place on, and says how many these are.
-fn copy_from(bytes: &[u8], at: u64, room: &mut [u8]) -> usize
-    ensures count { result ≡ min (length room.old) (length bytes.now - at) }
-    ensures filled { room.new ≡ take result (drop at bytes.now) ++ drop result room.old }
-    ensures within { result ≤ length room.old }
-{
-    let from = at.min(bytes.len() as u64) as usize;
-    let rest = &bytes[from..];
-    let count = rest.len().min(room.len());
-    room[..count].copy_from_slice(&rest[..count]);
-    count
 }

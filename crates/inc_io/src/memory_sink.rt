@@ -1,4 +1,4 @@
-ghost use Rattle.std.specs.Prelude.{◌≡◌, ◌==◌, ◌+◌, ◌-◌, ◌<◌, ◌≤◌, ◌&&◌, ◌||◌, nat_lt, nat_le, min, length, is_err, IfOk, [], Some};
+ghost use Rattle.std.specs.Prelude.{◌≡◌, ◌==◌, ◌+◌, ◌-◌, ◌^◌, ◌<◌, ◌≤◌, ◌&&◌, ◌||◌, nat_lt, nat_le, min, length, is_err, IfOk, [], Some};
 ghost use Rattle.std.specs.List.{list_any};
 ghost use Rattle.std.specs.Vec.{vec_capacity, vec_len};
 ghost use Rattle.inc_io.specs.Causes.{HasCause};
@@ -64,6 +64,9 @@ impl Sink for MemSink {
         ensures fails { is_err result ≡ (list_any (λ number. number == self.old.schedule.made) self.old.schedule.failing.items
             || (nat_lt 0 (length piece.now) && nat_le self.old.room (length self.old.bytes.items))) }
         ensures count { IfOk result (λ count. count ≡ min (min (length piece.now) self.old.cut) (self.old.room - length self.old.bytes.items)) }
+        ensures counted { self.new.schedule.made ≡ min (self.old.schedule.made + 1) (2 ^ 64 - 1) }
+        ensures same_failing { self.new.schedule.failing.items ≡ self.old.schedule.failing.items }
+        ensures same_limits { (self.new.room ≡ self.old.room) × (self.new.cut ≡ self.old.cut) }
     {
         self.schedule.call()?;
         let left = self.room - self.bytes.len();

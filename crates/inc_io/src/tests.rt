@@ -1,5 +1,6 @@
 use crate::{
-    Backing, Bytes, Clock, Failed, MemFile, MemSink, MemSource, Name, Sink, Source, StepClock,
+    Backing, Bell, Bytes, Clock, Failed, Gate, MemBell, MemFile, MemSink, MemSource, Name,
+    OpenGate, Sink, Source, StepClock,
 };
 use std::alloc::Global;
 use std::test::Fail;
@@ -39,7 +40,7 @@ fn a_file_is_read_by_places(rt: HostRuntime) -> Result<(), Fail> {
     assert_eq!(rt; room, *b"8956");
     assert_eq!(rt; file.read_at(11, &mut room), Ok(0));
     assert_eq!(rt; file.len(), Err(Failed));
-    assert_eq!(rt; file.faults(), 1);
+    assert_eq!(rt; file.fault_count(), 1);
     Ok(())
 }
 
@@ -97,5 +98,23 @@ fn a_sink_takes_pieces_up_to_its_room(rt: HostRuntime) -> Result<(), Fail> {
     assert_eq!(rt; sink.write(b"defg"), Ok(2));
     assert_eq!(rt; sink.write(b"f"), Err(Failed));
     assert_eq!(rt; sink.bytes(), b"abcde".as_slice());
+    Ok(())
+}
+
+/// Through the bounds alone, as a worker has them.
+fn pass<B: Bell + Sync, G: Gate + Sync>(bell: &B, gate: &G) -> u64 {
+    let seen = bell.seen();
+    gate.before(1, 1);
+    bell.ring();
+    gate.after(1, 1);
+    bell.rest(seen, u64::MAX);
+    bell.seen()
+}
+
+#[test]
+fn a_bell_counts_its_rings(rt: HostRuntime) -> Result<(), Fail> {
+    let bell = MemBell::new();
+    assert_eq!(rt; bell.seen(), 0);
+    assert_eq!(rt; pass(&bell, &OpenGate::new()), 1);
     Ok(())
 }

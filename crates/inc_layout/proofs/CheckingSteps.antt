@@ -1,46 +1,42 @@
 -- The steps of a check of a block: the kept hash blocks, the digests that are known, and their comparison.
-use Rattle.std.proofs.Common.{◌≡◌, ◌≢◌, ℕ, suc, ◌+◌, ◌*◌, ◌/◌, ◌%◌, ◌^◌, ◌<◌, ◌≤◌, true, List, [], ◌∷◌, ◌++◌, length, take, get_or, Option, Some, None, Result, Ok, Err, inl, inr, refl, sym, ap, ◌∙◌, subst, arith, add-one, below_more, length-take, length-drop}
+use Rattle.std.proofs.Common.{◌≡◌, ◌≢◌, ℕ, suc, ◌+◌, ◌<◌, ◌≤◌, true, List, [], ◌∷◌, ◌++◌, length, get_or, Option, Some, None, Result, Ok, Err, inl, inr, refl, sym, ap, ◌∙◌, subst, arith, add-one, below_more}
 use Rattle.std.specs.Prelude.{IfSome, OnErr, OnOk}
 use Rattle.std.proofs.Math.ListN.{set}
-use Rattle.std.proofs.Math.Nat.{pow-suc, div-div-eq-div-mul}
-use Rattle.std.proofs.Math.Seq.{take-length}
 use Rattle.std.proofs.lemmas.Bool.{cases_lt, le-ltb, cond-false, not-false}
 use Rattle.std.proofs.lemmas.List.{get_or_default}
 use Rattle.std.proofs.lemmas.List.Elements.{All-get_or, All-push, All-set}
 use Rattle.sha2.specs.Sha256.{sha256}
-use Rattle.inc_tree.specs.Geometry.{block_len, data_blocks, depth, hash_blocks, path_block}
-use Rattle.inc_tree.specs.Path.{NamesBreak, block_at, block_digest, digest_below, digest_wanted, first_break, slot_of}
+use Rattle.inc_tree.specs.Geometry.{Shape, block_len, data_blocks, depth, hash_blocks, path_block, path_slot}
+use Rattle.inc_tree.specs.Path.{NamesBreak, block_at, block_digest, digest_below, digest_wanted, first_break, padded, slot_of}
 use Rattle.inc_tree.proofs.LevelLemmas.{path_within, start_within}
 use Rattle.inc_tree.proofs.PathLemmas.{HoldsBelow, breaks_at_root, breaks_at_slot, first_is, good_has_no_break, holds_throughout, wanted_root, wanted_slot, whole_digest}
-use Rattle.inc_entry.specs.Entry.{Places, entries, entry_at, entry_of, places_of}
+use Rattle.inc_entry.specs.Entry.{Places, area_places, entries, entry_at, entry_from, hash_block_place}
+use Rattle.inc_entry.specs.Stored.{class_at, digest_at, digest_of, is_open_class, part}
 use Rattle.inc_entry.specs.Table.{IsClass}
 use Rattle.inc_entry.specs.declared.areas.Areas.{Areas}
 use Rattle.inc_entry.specs.declared.classes.Class.{Class}
 use Rattle.inc_entry.specs.declared.classes.Class.TheVariants as class
 use Rattle.inc_entry.specs.declared.entry.Entry.{Entry}
+use Rattle.inc_entry.proofs.BlockLemmas.{open_inside}
 use Rattle.inc_entry.proofs.Rows.{row_of}
-use Rattle.inc_layout.specs.Backing.{IsBackingFile, class_at, digest_at, digest_of}
-use Rattle.inc_layout.specs.Checking.{AreKept, GivesCheck, HasTree, IsKeptAt, IsKeptBelow, KnowsPath}
-use Rattle.inc_layout.specs.Opening.{is_open_class}
-use Rattle.inc_layout.specs.Parts.{part}
-use Rattle.inc_layout.specs.StaticRead.{block_place, checked, class_in, content_from, first_missing, hash_block, is_missing, judged, missing_error, path_in, size_in, static_reading, with_missing, with_place}
+use Rattle.inc_layout.specs.Backing.{IsBackingFile}
+use Rattle.inc_layout.specs.Checking.{AreKept, GivesCheck, HasTreeInside, IsKeptAt, IsKeptBelow, KnowsPath}
+use Rattle.inc_layout.specs.StaticRead.{block_place, by_root, class_in, content_from, first_missing, hash_block, is_missing, judged, missing_error, path_in, block_reading, with_missing, with_place}
 use Rattle.inc_layout.specs.declared.checking.KeptBlock.{KeptBlock}
 use Rattle.inc_layout.specs.declared.opened.Opened.{Opened}
 use Rattle.inc_layout.specs.declared.static_error.StaticError.{StaticError}
 use Rattle.inc_layout.specs.declared.static_error.StaticError.TheVariants.{Corrupt, ReadFault, OutOfMemory}
-use Rattle.inc_layout.proofs.EntryLemmas.{open_inside}
+use Rattle.inc_layout.specs.declared.stored_error.StoredError.{StoredError}
 use Rattle.inc_layout.proofs.ListedLemmas.{length-listed, listed_at, none_below}
-use Rattle.inc_layout.proofs.StaticSteps.{all_present, here_place, not_there, place_open, tree_there}
+use Rattle.inc_layout.proofs.LoopSteps.{hash_read, length-part, on_path}
+use Rattle.inc_layout.proofs.StaticSteps.{all_present, here_place, not_there, place_open}
 
 -- ---- the kept hash blocks
 
-whole_take : (n : ℕ) (xs : List ℕ) → length xs ≡ n → take n xs ≡ xs
-whole_take n xs e = ap (λ (m : ℕ). take m xs) (sym e) ∙ take-length xs
-
 abbrev IsKept : List ℕ → Areas → KeptBlock → Type 0
-IsKept bytes areas kept = kept.block ≡ part 4096 (areas.hash_at + 4096 * kept.number) bytes
+IsKept bytes areas kept = kept.block ≡ hash_block bytes areas kept.number
 
-all_kept : (bytes : List ℕ) (areas : Areas) (level : ℕ) (kept : KeptBlock) (before after : List KeptBlock) (result : Result (Unit {0}) StaticError) → IsKept bytes areas kept
+all_kept : (bytes : List ℕ) (areas : Areas) (level : ℕ) (kept : KeptBlock) (before after : List KeptBlock) (result : Result (Unit {0}) StoredError) → IsKept bytes areas kept
     → AreKept bytes areas before → level ≤ length before
     → (level < length before → OnOk result (after ≡ set before level kept)) → (level ≡ length before → OnOk result (after ≡ before ++ kept ∷ [])) → OnErr result (after ≡ before)
     → AreKept bytes areas after
@@ -51,44 +47,42 @@ all_kept bytes areas level kept before after (Ok good) own all room over more st
       | inr end ↦ subst (AreKept bytes areas) (sym (more (omega arith))) (All-push (IsKept bytes areas) before kept all own)
     ]
 
-pub kept_after : (told : Option (List ℕ)) (areas : Areas) (level at : ℕ) (kept : KeptBlock) (before after : List KeptBlock) (result : Result (Unit {0}) StaticError)
-    → at ≡ areas.hash_at + 4096 * kept.number → kept.number < hash_blocks areas.geometry → length kept.block ≡ 4096 → level ≤ length before
-    → IfSome told (λ bytes. HasTree bytes areas) → IfSome told (λ bytes. at + 4096 ≤ length bytes → take 4096 kept.block ≡ part 4096 at bytes)
+pub kept_after : (told : Option (List ℕ)) (areas : Areas) (level at : ℕ) (kept : KeptBlock) (before after : List KeptBlock) (result : Result (Unit {0}) StoredError)
+    → at ≡ hash_block_place (area_places areas) kept.number → kept.number < hash_blocks areas.geometry → level ≤ length before
+    → IfSome told (λ bytes. HasTreeInside bytes areas) → IfSome told (λ bytes. at + 4096 ≤ length bytes → kept.block ≡ padded (part 4096 at bytes))
     → IfSome told (λ bytes. AreKept bytes areas before)
     → (level < length before → OnOk result (after ≡ set before level kept)) → (level ≡ length before → OnOk result (after ≡ before ++ kept ∷ [])) → OnErr result (after ≡ before)
     → IfSome told (λ bytes. AreKept bytes areas after)
-kept_after None areas level at kept before after result is lt whole room tree read all over more stays = tt
-kept_after (Some bytes) areas level at kept before after result is lt whole room tree read all over more stays =
-    let end = tree (omega arith) in
-    let own : IsKept bytes areas kept = sym (whole_take 4096 kept.block whole) ∙ read (omega arith) ∙ ap (λ (place : ℕ). part 4096 place bytes) is in
-    all_kept bytes areas level kept before after result own all room over more stays
+kept_after None areas level at kept before after result is lt room tree read all over more stays = tt
+kept_after (Some bytes) areas level at kept before after result is lt room tree read all over more stays =
+    all_kept bytes areas level kept before after result (hash_read bytes areas kept.number at kept.block is lt tree read) all room over more stays
 
-pub none_kept : (blocks : List KeptBlock) (size index : ℕ) → IsKeptBelow blocks size index 0
-none_kept blocks size index level lt = absurd (omega arith)
+pub none_kept : (blocks : List KeptBlock) (shape : Shape) (index : ℕ) → IsKeptBelow blocks shape index 0
+none_kept blocks shape index level lt = absurd (omega arith)
 
-pub more_kept : (before after : List KeptBlock) (size index level hash : ℕ) → hash ≡ path_block size index level → IsKeptAt after level hash
-    → ((lower number : ℕ) → lower < level → IsKeptAt before lower number → IsKeptAt after lower number) → IsKeptBelow before size index level → IsKeptBelow after size index (suc level)
-more_kept before after size index level hash is here lower below at lt =
+pub more_kept : (before after : List KeptBlock) (shape : Shape) (index level hash : ℕ) → hash ≡ path_block shape index level → IsKeptAt after level hash
+    → ((lower number : ℕ) → lower < level → IsKeptAt before lower number → IsKeptAt after lower number) → IsKeptBelow before shape index level → IsKeptBelow after shape index (suc level)
+more_kept before after shape index level hash is here lower below at lt =
     elim (cases_lt at level) [
-      | inl less ↦ lower at (path_block size index at) less (below at less)
+      | inl less ↦ lower at (path_block shape index at) less (below at less)
       | inr last ↦
           let same : level ≡ at = omega arith in
-          subst (λ (n : ℕ). IsKeptAt after n (path_block size index n)) same (subst (IsKeptAt after level) is here)
+          subst (λ (n : ℕ). IsKeptAt after n (path_block shape index n)) same (subst (IsKeptAt after level) is here)
     ]
 
 -- ---- the open blocks have digests
 
-pub open_there : (opened : Opened) (index place : ℕ) → Ok place ≡ block_place opened index → index < data_blocks (size_in opened) → is_open_class (class_in opened index) ≡ true
+pub open_there : (opened : Opened) (index place : ℕ) → Ok place ≡ block_place opened.areas opened.classes index → index < data_blocks opened.areas.geometry → is_open_class (class_in opened.classes index) ≡ true
 open_there opened index place e lt =
-    let found = place_open (class_in opened index) place (here_place opened index place lt (sym e)) in
+    let found = place_open (class_in opened.classes index) place (here_place opened.areas opened.classes index place lt (sym e)) in
     ap is_open_class found.1
 
-pub all_arrived : (opened : Opened) (index : ℕ) → Ok tt ≡ missing_error opened index (first_missing opened index) → first_missing opened index ≡ None
-all_arrived opened index e = all_present opened index (first_missing opened index) e
+pub all_arrived : (opened : Opened) (index : ℕ) → Ok tt ≡ missing_error opened.areas index (first_missing opened.areas opened.classes index) → first_missing opened.areas opened.classes index ≡ None
+all_arrived opened index e = all_present opened.areas index (first_missing opened.areas opened.classes index) e
 
-pub level_open : (opened : Opened) (index level : ℕ) → first_missing opened index ≡ None → level < depth (size_in opened)
-    → is_open_class (class_in opened (data_blocks (size_in opened) + path_block (size_in opened) index level)) ≡ true
-level_open opened index level none lt = not-false _ (none_below (depth (size_in opened)) (is_missing opened index) none level lt)
+pub level_open : (opened : Opened) (index level : ℕ) → first_missing opened.areas opened.classes index ≡ None → level < depth opened.areas.geometry
+    → is_open_class (class_in opened.classes (data_blocks opened.areas.geometry + path_block opened.areas.geometry index level)) ≡ true
+level_open opened index level none lt = not-false _ (none_below (depth opened.areas.geometry) (is_missing opened.areas opened.classes index) none level lt)
 
 -- ---- the digests are compared
 
@@ -96,11 +90,10 @@ no_block : KeptBlock
 no_block = record { number = 0; block = [] }
 
 -- the wanted digest is a slot of the path's block
-slot_wanted : (opened : Opened) (blocks : List KeptBlock) (index level place : ℕ) (wanted content : List ℕ) (path : List (List ℕ)) → KnowsPath opened blocks index content path
-    → level < depth (size_in opened) → ((other : KeptBlock) → wanted ≡ slot_of (get_or blocks level other).block (place % 128))
-    → wanted ≡ slot_of (block_at path level) (place % 128)
-slot_wanted opened blocks index level place wanted content path knows lt is =
-    is no_block ∙ ap (λ (block : List ℕ). slot_of block (place % 128)) (knows.hash_block level lt no_block)
+slot_wanted : (opened : Opened) (blocks : List KeptBlock) (index level slot : ℕ) (wanted content : List ℕ) (path : List (List ℕ)) → KnowsPath opened blocks index content path
+    → level < depth opened.areas.geometry → ((other : KeptBlock) → wanted ≡ slot_of (get_or blocks level other).block slot) → wanted ≡ slot_of (block_at path level) slot
+slot_wanted opened blocks index level slot wanted content path knows lt is =
+    is no_block ∙ ap (λ (block : List ℕ). slot_of block slot) (knows.hash_block level lt no_block)
 
 found_at : (path : List (List ℕ)) (level : ℕ) → level < length path → block_at path level ≡ get_or path level (block_at path level)
 found_at path level lt = get_or_default path level [] (block_at path level) lt
@@ -108,63 +101,56 @@ found_at path level lt = get_or_default path level [] (block_at path level) lt
 same_digest : (found : Option (List ℕ)) (got own : List ℕ) → found ≡ Some got → found ≡ Some own → got ≡ own
 same_digest found got own e f = let both : Some got ≡ Some own = sym e ∙ f in cc
 
-pub holds_first : (opened : Opened) (blocks : List KeptBlock) (index : ℕ) (got content : List ℕ) (path : List (List ℕ)) → get_or opened.digests index None ≡ Some got
-    → KnowsPath opened blocks index content path → HoldsBelow opened.sig.root index content path 0 0 index got
-holds_first opened blocks index got content path is knows = record {
+pub holds_first : (root : List ℕ) (opened : Opened) (blocks : List KeptBlock) (index : ℕ) (got content : List ℕ) (path : List (List ℕ)) → get_or opened.digests index None ≡ Some got
+    → KnowsPath opened blocks index content path → HoldsBelow root index content path 0 0 got
+holds_first root opened blocks index got content path is knows = record {
   level_is = refl;
-  place_is = omega arith;
   got_is = same_digest _ got (block_digest content) is knows.content_digest;
   checked = λ lower lt. absurd (omega arith);
 }
 
-pub holds_more : (opened : Opened) (blocks : List KeptBlock) (index level place : ℕ) (got wanted next content : List ℕ) (path : List (List ℕ)) → level < depth (size_in opened)
-    → ((other : KeptBlock) → wanted ≡ slot_of (get_or blocks level other).block (place % 128)) → got ≡ wanted
-    → get_or opened.digests (data_blocks (size_in opened) + path_block (size_in opened) index level) None ≡ Some next → KnowsPath opened blocks index content path
-    → HoldsBelow opened.sig.root index content path level level place got → HoldsBelow opened.sig.root index content path (suc level) (suc level) (place / 128) next
-holds_more opened blocks index level place got wanted next content path lt is same next_is knows holds =
+pub holds_more : (root : List ℕ) (opened : Opened) (blocks : List KeptBlock) (index level slot : ℕ) (got wanted next content : List ℕ) (path : List (List ℕ)) → level < depth opened.areas.geometry
+    → slot ≡ path_slot index level → ((other : KeptBlock) → wanted ≡ slot_of (get_or blocks level other).block slot) → got ≡ wanted
+    → get_or opened.digests (data_blocks opened.areas.geometry + path_block opened.areas.geometry index level) None ≡ Some next → KnowsPath opened blocks index content path
+    → HoldsBelow root index content path level level got → HoldsBelow root index content path (suc level) (suc level) next
+holds_more root opened blocks index level slot got wanted next content path lt slot_is is same next_is knows holds =
     let there : level < length path = omega (arith, knows.full) in
-    let slot = slot_wanted opened blocks index level place wanted content path knows lt is in
+    let wanted_is = slot_wanted opened blocks index level slot wanted content path knows lt is in
     record {
       level_is = refl;
-      place_is =
-          ap (λ (n : ℕ). n / 128) holds.place_is
-          ∙ (div-div-eq-div-mul index (128 ^ level) 128 ∙ ap (λ (n : ℕ). index / n) (sym (pow-suc 128 level)));
       got_is = same_digest _ next (sha256 (block_at path level)) next_is (knows.hash_digest level lt);
       checked = rw (← add-one level) (
-          below_more (λ lower. digest_below content path lower ≡ digest_wanted opened.sig.root index path lower) level holds.checked
-          (sym holds.got_is ∙ (same ∙ sym (wanted_slot opened.sig.root index path level place (block_at path level) wanted there (found_at path level there) holds.place_is slot))));
+          below_more (λ lower. digest_below content path lower ≡ digest_wanted root index path lower) level holds.checked
+          (sym holds.got_is ∙ (same ∙ sym (wanted_slot root index path level slot (block_at path level) wanted there (found_at path level there) slot_is wanted_is))));
     }
 
-pub slot_differs : (opened : Opened) (blocks : List KeptBlock) (index level place : ℕ) (got wanted content : List ℕ) (path : List (List ℕ)) → level < depth (size_in opened)
-    → ((other : KeptBlock) → wanted ≡ slot_of (get_or blocks level other).block (place % 128)) → got ≢ wanted → KnowsPath opened blocks index content path
-    → HoldsBelow opened.sig.root index content path level level place got → NamesBreak opened.sig.root index content path level wanted got
-slot_differs opened blocks index level place got wanted content path lt is differs knows holds =
+pub slot_differs : (root : List ℕ) (opened : Opened) (blocks : List KeptBlock) (index level slot : ℕ) (got wanted content : List ℕ) (path : List (List ℕ)) → level < depth opened.areas.geometry
+    → slot ≡ path_slot index level → ((other : KeptBlock) → wanted ≡ slot_of (get_or blocks level other).block slot) → got ≢ wanted → KnowsPath opened blocks index content path
+    → HoldsBelow root index content path level level got → NamesBreak root index content path level wanted got
+slot_differs root opened blocks index level slot got wanted content path lt slot_is is differs knows holds =
     let there : level < length path = omega (arith, knows.full) in
-    let slot = slot_wanted opened blocks index level place wanted content path knows lt is in
+    let wanted_is = slot_wanted opened blocks index level slot wanted content path knows lt is in
     record {
-      fails = breaks_at_slot opened.sig.root index content path level level place got (block_at path level) wanted holds there (found_at path level there) slot differs;
-      wanted_is = sym (wanted_slot opened.sig.root index path level place (block_at path level) wanted there (found_at path level there) holds.place_is slot);
+      fails = breaks_at_slot root index content path level level slot got (block_at path level) wanted holds there (found_at path level there) slot_is wanted_is differs;
+      wanted_is = sym (wanted_slot root index path level slot (block_at path level) wanted there (found_at path level there) slot_is wanted_is);
       got_is = holds.got_is;
     }
 
-pub root_differs : (opened : Opened) (blocks : List KeptBlock) (index level place : ℕ) (got content : List ℕ) (path : List (List ℕ)) → level ≡ depth (size_in opened)
-    → got ≢ opened.sig.root → KnowsPath opened blocks index content path
-    → HoldsBelow opened.sig.root index content path level level place got → NamesBreak opened.sig.root index content path level opened.sig.root got
-root_differs opened blocks index level place got content path end differs knows holds =
+pub root_differs : (root : List ℕ) (opened : Opened) (blocks : List KeptBlock) (index level : ℕ) (got content : List ℕ) (path : List (List ℕ)) → level ≡ depth opened.areas.geometry
+    → got ≢ root → KnowsPath opened blocks index content path → HoldsBelow root index content path level level got → NamesBreak root index content path level root got
+root_differs root opened blocks index level got content path end differs knows holds =
     let last : level ≡ length path = end ∙ sym knows.full in
     record {
-      fails = breaks_at_root opened.sig.root index content path level level place got holds last differs;
-      wanted_is = sym (wanted_root opened.sig.root index path level (omega arith));
+      fails = breaks_at_root root index content path level level got holds last differs;
+      wanted_is = sym (wanted_root root index path level (omega arith));
       got_is = holds.got_is;
     }
 
-pub all_hold : (opened : Opened) (blocks : List KeptBlock) (index level place : ℕ) (got content : List ℕ) (path : List (List ℕ)) → level ≡ depth (size_in opened)
-    → got ≡ opened.sig.root → KnowsPath opened blocks index content path
-    → HoldsBelow opened.sig.root index content path level level place got → first_break opened.sig.root index content path ≡ None
-all_hold opened blocks index level place got content path end same knows holds =
+pub all_hold : (root : List ℕ) (opened : Opened) (blocks : List KeptBlock) (index level : ℕ) (got content : List ℕ) (path : List (List ℕ)) → level ≡ depth opened.areas.geometry
+    → got ≡ root → KnowsPath opened blocks index content path → HoldsBelow root index content path level level got → first_break root index content path ≡ None
+all_hold root opened blocks index level got content path end same knows holds =
     let last : level ≡ length path = end ∙ sym knows.full in
-    good_has_no_break opened.sig.root (size_in opened) index content path
-    (holds_throughout opened.sig.root (size_in opened) index content path level level place got holds last knows.full same)
+    good_has_no_break root opened.areas.geometry index content path (holds_throughout root opened.areas.geometry index content path level level got holds last knows.full same)
 
 -- ---- of a backing file the digests are those of its blocks
 
@@ -175,65 +161,62 @@ open_class class.Compressed e = absurd cc
 open_class class.Closed e = absurd cc
 
 -- a hash block's place is the one that its number gives
-tree_place : (places : Places) (bytes : List ℕ) (hash place size : ℕ) → class_at places bytes (data_blocks places.size + hash) ≡ class.OpenAt place size → place ≡ places.hash_at + 4096 * hash
+tree_place : (places : Places) (bytes : List ℕ) (hash place size : ℕ) → class_at places bytes (data_blocks places.shape + hash) ≡ class.OpenAt place size → place ≡ hash_block_place places hash
 tree_place places bytes hash place size is =
-    let i : ℕ = data_blocks places.size + hash in
-    let e : Entry = entry_of bytes (entry_at places i) in
+    let i : ℕ = data_blocks places.shape + hash in
+    let e : Entry = entry_from bytes (entry_at places i) in
     let row : IsClass places (length bytes) i e (class.OpenAt place size) = subst (λ (c : Class). IsClass places (length bytes) i e c) is (row_of places (length bytes) i e) in
     let at = row.1 in
     let own = row.0.of_tree (omega arith) in
     omega arith
 
-hash_len : (size hash : ℕ) → block_len size (data_blocks size + hash) ≡ 4096
-hash_len size hash = cond-false _ _ _ (le-ltb (data_blocks size + hash) (data_blocks size) (omega arith))
+hash_len : (shape : Shape) (hash : ℕ) → block_len shape (data_blocks shape + hash) ≡ 4096
+hash_len shape hash = cond-false _ _ _ (le-ltb (data_blocks shape + hash) (data_blocks shape) (omega arith))
 
-part_len : (bytes : List ℕ) (count at : ℕ) → at + count ≤ length bytes → length (part count at bytes) ≡ count
-part_len bytes count at le = rw (length-take, length-drop) (omega arith)
-
-digest_known : (bytes : List ℕ) (opened : Opened) (i place size : ℕ) → IsBackingFile bytes opened → i < entries (places_of opened.areas) → class_in opened i ≡ class.OpenAt place size
-    → get_or opened.digests i None ≡ Some (digest_at (places_of opened.areas) bytes i place)
+digest_known : (bytes : List ℕ) (opened : Opened) (i place size : ℕ) → IsBackingFile bytes opened → i < entries (area_places opened.areas) → class_in opened.classes i ≡ class.OpenAt place size
+    → get_or opened.digests i None ≡ Some (digest_at (area_places opened.areas) bytes i place)
 digest_known bytes opened i place size is lt open_at =
-    is.each_digest i lt ∙ ap (digest_of (places_of opened.areas) bytes i) (sym (is.each_class i lt) ∙ open_at)
+    is.each_digest i lt ∙ ap (digest_of (area_places opened.areas) bytes i) (sym (is.laid.each_class i lt) ∙ open_at)
 
-hash_within : (size index level : ℕ) → index < data_blocks size → level < depth size → path_block size index level < hash_blocks size
-hash_within size index level here lt = let a = path_within size index level here lt in let b = start_within size level lt in omega arith
+hash_within : (shape : Shape) (index level : ℕ) → index < data_blocks shape → level < depth shape → path_block shape index level < hash_blocks shape
+hash_within shape index level here lt = let a = path_within shape index level here lt in let b = start_within shape level lt in omega arith
 
-hash_known : (bytes : List ℕ) (opened : Opened) (index level : ℕ) → IsBackingFile bytes opened → index < data_blocks (size_in opened) → level < depth (size_in opened)
-    → is_open_class (class_in opened (data_blocks (size_in opened) + path_block (size_in opened) index level)) ≡ true
-    → get_or opened.digests (data_blocks (size_in opened) + path_block (size_in opened) index level) None ≡ Some (sha256 (hash_block bytes opened.areas index level))
+hash_known : (bytes : List ℕ) (opened : Opened) (index level : ℕ) → IsBackingFile bytes opened → index < data_blocks opened.areas.geometry → level < depth opened.areas.geometry
+    → is_open_class (class_in opened.classes (data_blocks opened.areas.geometry + path_block opened.areas.geometry index level)) ≡ true
+    → get_or opened.digests (data_blocks opened.areas.geometry + path_block opened.areas.geometry index level) None ≡ Some (sha256 (on_path bytes opened.areas index level))
 hash_known bytes opened index level is here lt there =
-    let size : ℕ = size_in opened in
-    let places : Places = places_of opened.areas in
-    let hash : ℕ = path_block size index level in
-    let i : ℕ = data_blocks size + hash in
-    let within : i < entries places = let h : hash < hash_blocks size = hash_within size index level here lt in omega arith in
-    let found = open_class (class_in opened i) there in
-    let own : class_at places bytes i ≡ class.OpenAt found.0 found.1.0 = sym (is.each_class i within) ∙ found.1.1 in
-    let place : found.0 ≡ opened.areas.hash_at + 4096 * hash = tree_place places bytes hash found.0 found.1.0 own in
-    let whole : block_len size i ≡ 4096 = hash_len size hash in
-    let inside : found.0 + block_len size i ≤ length bytes = open_inside places bytes i found.0 found.1.0 own in
-    let full : length (hash_block bytes opened.areas index level) ≡ 4096 = part_len bytes 4096 (opened.areas.hash_at + 4096 * hash) (omega arith) in
+    let shape : Shape = opened.areas.geometry in
+    let places : Places = area_places opened.areas in
+    let hash : ℕ = path_block shape index level in
+    let i : ℕ = data_blocks shape + hash in
+    let within : i < entries places = let h : hash < hash_blocks shape = hash_within shape index level here lt in omega arith in
+    let found = open_class (class_in opened.classes i) there in
+    let own : class_at places bytes i ≡ class.OpenAt found.0 found.1.0 = sym (is.laid.each_class i within) ∙ found.1.1 in
+    let place : found.0 ≡ hash_block_place places hash = tree_place places bytes hash found.0 found.1.0 own in
+    let whole : block_len shape i ≡ 4096 = hash_len shape hash in
+    let inside : found.0 + block_len shape i ≤ length bytes = open_inside places bytes i found.0 found.1.0 own in
+    let full : length (on_path bytes opened.areas index level) ≡ 4096 = length-part 4096 (hash_block_place places hash) bytes (omega arith) in
     digest_known bytes opened i found.0 found.1.0 is within found.1.1
-    ∙ (λ j. Some (block_digest (part (whole j) (place j) bytes))) ∙ ap (λ (d : List ℕ). Some d) (whole_digest (hash_block bytes opened.areas index level) full)
+    ∙ (λ j. Some (block_digest (part (whole j) (place j) bytes))) ∙ ap (λ (d : List ℕ). Some d) (whole_digest (on_path bytes opened.areas index level) full)
 
-kept_known : (bytes : List ℕ) (opened : Opened) (blocks : List KeptBlock) (index level : ℕ) → AreKept bytes opened.areas blocks → IsKeptAt blocks level (path_block (size_in opened) index level)
-    → level < depth (size_in opened) → (other : KeptBlock) → (get_or blocks level other).block ≡ block_at (path_in bytes opened.areas index) level
+kept_known : (bytes : List ℕ) (opened : Opened) (blocks : List KeptBlock) (index level : ℕ) → AreKept bytes opened.areas blocks → IsKeptAt blocks level (path_block opened.areas.geometry index level)
+    → level < depth opened.areas.geometry → (other : KeptBlock) → (get_or blocks level other).block ≡ block_at (path_in bytes opened.areas index) level
 kept_known bytes opened blocks index level all at lt other =
     All-get_or (IsKept bytes opened.areas) blocks level other at.there all
-    ∙ ap (λ (n : ℕ). part 4096 (opened.areas.hash_at + 4096 * n) bytes) (at.numbered other)
-    ∙ sym (listed_at (hash_block bytes opened.areas index) (depth (size_in opened)) level [] lt)
+    ∙ ap (hash_block bytes opened.areas) (at.numbered other)
+    ∙ sym (listed_at (on_path bytes opened.areas index) (depth opened.areas.geometry) level [] lt)
 
-knows : (bytes : List ℕ) (opened : Opened) (blocks : List KeptBlock) (index place : ℕ) → IsBackingFile bytes opened → index < data_blocks (size_in opened) → Ok place ≡ block_place opened index
-    → first_missing opened index ≡ None → AreKept bytes opened.areas blocks → IsKeptBelow blocks (size_in opened) index (depth (size_in opened))
+knows : (bytes : List ℕ) (opened : Opened) (blocks : List KeptBlock) (index place : ℕ) → IsBackingFile bytes opened → index < data_blocks opened.areas.geometry → Ok place ≡ block_place opened.areas opened.classes index
+    → first_missing opened.areas opened.classes index ≡ None → AreKept bytes opened.areas blocks → IsKeptBelow blocks opened.areas.geometry index (depth opened.areas.geometry)
     → KnowsPath opened blocks index (content_from bytes opened.areas index place) (path_in bytes opened.areas index)
 knows bytes opened blocks index place is here p none all on =
-    let found = place_open (class_in opened index) place (here_place opened index place here (sym p)) in
+    let found = place_open (class_in opened.classes index) place (here_place opened.areas opened.classes index place here (sym p)) in
     record {
-      full = length-listed (hash_block bytes opened.areas index) (depth (size_in opened));
+      full = length-listed (on_path bytes opened.areas index) (depth opened.areas.geometry);
       content_digest = digest_known bytes opened index place found.0 is (omega arith) found.1;
       hash_digest = λ level lt.
           hash_known bytes opened index level is here lt (level_open opened index level none lt)
-          ∙ ap (λ (block : List ℕ). Some (sha256 block)) (sym (listed_at (hash_block bytes opened.areas index) (depth (size_in opened)) level [] lt));
+          ∙ ap (λ (block : List ℕ). Some (sha256 block)) (sym (listed_at (on_path bytes opened.areas index) (depth opened.areas.geometry) level [] lt));
       hash_block = λ level lt other. kept_known bytes opened blocks index level all (on level lt) lt other;
     }
 
@@ -244,54 +227,54 @@ gives_error ReadFault wanted e = tt
 gives_error OutOfMemory wanted e = tt
 gives_error error wanted e = e
 
-pub no_place : (told : Option (List ℕ)) (opened : Opened) (index : ℕ) (error : StaticError) → Err error ≡ block_place opened index
-    → IfSome told (λ bytes. GivesCheck (Err error) (static_reading bytes opened index))
-unfolding static_reading
-no_place None opened index error e = tt
-no_place (Some bytes) opened index error e = gives_error error _ (ap (with_place bytes opened index) (sym e))
+pub no_place : (told : Option (List ℕ)) (root : List ℕ) (opened : Opened) (index : ℕ) (error : StaticError) → Err error ≡ block_place opened.areas opened.classes index
+    → IfSome told (λ bytes. GivesCheck (Err error) (block_reading bytes (Some root) opened.areas opened.classes index))
+unfolding block_reading
+no_place None root opened index error e = tt
+no_place (Some bytes) root opened index error e = gives_error error _ (ap (with_place bytes (Some root) opened.areas opened.classes index) (sym e))
 
-pub no_hash_block : (told : Option (List ℕ)) (opened : Opened) (index place : ℕ) (error : StaticError) → Ok place ≡ block_place opened index → Err error ≡ missing_error opened index (first_missing opened index)
-    → IfSome told (λ bytes. GivesCheck (Err error) (static_reading bytes opened index))
-unfolding static_reading
-no_hash_block None opened index place error p e = tt
-no_hash_block (Some bytes) opened index place error p e =
-    gives_error error _ (ap (with_place bytes opened index) (sym p) ∙ not_there bytes opened index place error _ e)
+pub no_hash_block : (told : Option (List ℕ)) (root : List ℕ) (opened : Opened) (index place : ℕ) (error : StaticError) → Ok place ≡ block_place opened.areas opened.classes index → Err error ≡ missing_error opened.areas index (first_missing opened.areas opened.classes index)
+    → IfSome told (λ bytes. GivesCheck (Err error) (block_reading bytes (Some root) opened.areas opened.classes index))
+unfolding block_reading
+no_hash_block None root opened index place error p e = tt
+no_hash_block (Some bytes) root opened index place error p e =
+    gives_error error _ (ap (with_place bytes (Some root) opened.areas opened.classes index) (sym p) ∙ not_there bytes (Some root) opened.areas index place error _ e)
 
-reading_is : (bytes : List ℕ) (opened : Opened) (index place : ℕ) → Ok place ≡ block_place opened index → first_missing opened index ≡ None
-    → static_reading bytes opened index ≡ checked opened.sig.root index (content_from bytes opened.areas index place) (path_in bytes opened.areas index)
-unfolding static_reading
-reading_is bytes opened index place p none = ap (with_place bytes opened index) (sym p) ∙ ap (with_missing bytes opened index place) none
+reading_is : (bytes root : List ℕ) (opened : Opened) (index place : ℕ) → Ok place ≡ block_place opened.areas opened.classes index → first_missing opened.areas opened.classes index ≡ None
+    → block_reading bytes (Some root) opened.areas opened.classes index ≡ by_root (Some root) index (content_from bytes opened.areas index place) (path_in bytes opened.areas index)
+unfolding block_reading
+reading_is bytes root opened index place p none = ap (with_place bytes (Some root) opened.areas opened.classes index) (sym p) ∙ ap (with_missing bytes (Some root) opened.areas index place) none
 
-pub tree_of : (told : Option (List ℕ)) (opened : Opened) → IfSome told (λ bytes. IsBackingFile bytes opened) → IfSome told (λ bytes. HasTree bytes opened.areas)
-tree_of None opened stands = tt
-tree_of (Some bytes) opened stands = tree_there bytes opened stands
+pub tree_inside : (told : Option (List ℕ)) (opened : Opened) → IfSome told (λ bytes. IsBackingFile bytes opened) → IfSome told (λ bytes. HasTreeInside bytes opened.areas)
+tree_inside None opened stands = tt
+tree_inside (Some bytes) opened stands = stands.laid.fixed.tree_inside
 
-pub compared_good : (told : Option (List ℕ)) (opened : Opened) (blocks : List KeptBlock) (index place : ℕ) → IfSome told (λ bytes. IsBackingFile bytes opened)
-    → index < data_blocks (size_in opened) → Ok place ≡ block_place opened index → first_missing opened index ≡ None → IfSome told (λ bytes. AreKept bytes opened.areas blocks)
-    → IsKeptBelow blocks (size_in opened) index (depth (size_in opened))
-    → ((content : List ℕ) (path : List (List ℕ)) → KnowsPath opened blocks index content path → first_break opened.sig.root index content path ≡ None)
-    → IfSome told (λ bytes. GivesCheck (Ok tt) (static_reading bytes opened index))
-compared_good None opened blocks index place stands here p none all on good = tt
-compared_good (Some bytes) opened blocks index place stands here p none all on good =
+pub compared_good : (told : Option (List ℕ)) (root : List ℕ) (opened : Opened) (blocks : List KeptBlock) (index place : ℕ) → IfSome told (λ bytes. IsBackingFile bytes opened)
+    → index < data_blocks opened.areas.geometry → Ok place ≡ block_place opened.areas opened.classes index → first_missing opened.areas opened.classes index ≡ None → IfSome told (λ bytes. AreKept bytes opened.areas blocks)
+    → IsKeptBelow blocks opened.areas.geometry index (depth opened.areas.geometry)
+    → ((content : List ℕ) (path : List (List ℕ)) → KnowsPath opened blocks index content path → first_break root index content path ≡ None)
+    → IfSome told (λ bytes. GivesCheck (Ok tt) (block_reading bytes (Some root) opened.areas opened.classes index))
+compared_good None root opened blocks index place stands here p none all on good = tt
+compared_good (Some bytes) root opened blocks index place stands here p none all on good =
     let content : List ℕ = content_from bytes opened.areas index place in
     let path : List (List ℕ) = path_in bytes opened.areas index in
-    let reading : static_reading bytes opened index ≡ Ok content =
-    reading_is bytes opened index place p none
-    ∙ ap (judged opened.sig.root index content path) (good content path (knows bytes opened blocks index place stands here p none all on)) in
+    let reading : block_reading bytes (Some root) opened.areas opened.classes index ≡ Ok content =
+    reading_is bytes root opened index place p none
+    ∙ ap (judged root index content path) (good content path (knows bytes opened blocks index place stands here p none all on)) in
     rw reading refl
 
-pub compared_bad : (told : Option (List ℕ)) (opened : Opened) (blocks : List KeptBlock) (index place level : ℕ) (wanted got : List ℕ) (error : StaticError)
+pub compared_bad : (told : Option (List ℕ)) (root : List ℕ) (opened : Opened) (blocks : List KeptBlock) (index place level : ℕ) (wanted got : List ℕ) (error : StaticError)
     → IfSome told (λ bytes. IsBackingFile bytes opened)
-    → index < data_blocks (size_in opened) → Ok place ≡ block_place opened index → first_missing opened index ≡ None → IfSome told (λ bytes. AreKept bytes opened.areas blocks)
-    → IsKeptBelow blocks (size_in opened) index (depth (size_in opened))
-    → ((content : List ℕ) (path : List (List ℕ)) → KnowsPath opened blocks index content path → NamesBreak opened.sig.root index content path level wanted got)
+    → index < data_blocks opened.areas.geometry → Ok place ≡ block_place opened.areas opened.classes index → first_missing opened.areas opened.classes index ≡ None → IfSome told (λ bytes. AreKept bytes opened.areas blocks)
+    → IsKeptBelow blocks opened.areas.geometry index (depth opened.areas.geometry)
+    → ((content : List ℕ) (path : List (List ℕ)) → KnowsPath opened blocks index content path → NamesBreak root index content path level wanted got)
     → error ≡ Corrupt level wanted got
-    → IfSome told (λ bytes. GivesCheck (Err error) (static_reading bytes opened index))
-compared_bad None opened blocks index place level wanted got error stands here p none all on bad is = tt
-compared_bad (Some bytes) opened blocks index place level wanted got error stands here p none all on bad is =
+    → IfSome told (λ bytes. GivesCheck (Err error) (block_reading bytes (Some root) opened.areas opened.classes index))
+compared_bad None root opened blocks index place level wanted got error stands here p none all on bad is = tt
+compared_bad (Some bytes) root opened blocks index place level wanted got error stands here p none all on bad is =
     let content : List ℕ = content_from bytes opened.areas index place in
     let path : List (List ℕ) = path_in bytes opened.areas index in
     let broken = bad content path (knows bytes opened blocks index place stands here p none all on) in
-    gives_error error _ (reading_is bytes opened index place p none
-    ∙ ap (judged opened.sig.root index content path) (first_is opened.sig.root index content path level broken.fails)
+    gives_error error _ (reading_is bytes root opened index place p none
+    ∙ ap (judged root index content path) (first_is root index content path level broken.fails)
     ∙ (λ i. Err (Corrupt level (sym broken.wanted_is i) (sym broken.got_is i))) ∙ ap (λ (x : StaticError). Err x) (sym is))

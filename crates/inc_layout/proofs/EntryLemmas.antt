@@ -1,21 +1,18 @@
 -- The entries of a file's map, read in pieces, and the digests of its stored blocks.
-use Rattle.std.proofs.Common.{◌≡◌, ◌⊎◌, ℕ, suc, ◌+◌, ◌-◌, ◌*◌, ◌<◌, ◌≤◌, true, false, cond, List, [], ◌∷◌, ◌++◌, length, take, drop, get_or, min, Option, Some, None, Err, inl, inr, refl, sym, ap, ◌∙◌, subst, arith}
-use Rattle.std.specs.Prelude.{IfSome, nat_lt}
+use Rattle.std.proofs.Common.{◌≡◌, ◌⊎◌, ℕ, suc, ◌+◌, ◌-◌, ◌*◌, ◌<◌, ◌≤◌, true, false, List, [], ◌∷◌, ◌++◌, length, take, drop, get_or, Option, Some, None, inl, inr, sym, ap, ◌∙◌, subst, arith}
+use Rattle.std.specs.Prelude.{IfSome}
 use Rattle.std.proofs.lemmas.List.{get_or-take, get_or-drop}
 use Rattle.inc_bytes.specs.Fields.{le_number}
-use Rattle.inc_tree.specs.Geometry.{block_len, data_blocks}
+use Rattle.inc_tree.specs.Geometry.{block_len}
 use Rattle.inc_tree.specs.Path.{block_digest}
-use Rattle.inc_entry.specs.Entry.{Places, class_of, entries, entry_at, entry_of, map_span, past_end}
-use Rattle.inc_entry.specs.Table.{IsClass, IsOpenEntry}
+use Rattle.inc_entry.specs.Entry.{Places, class_of, entries, entry_at, entry_from, map_span, past_end}
+use Rattle.inc_entry.specs.Spans.{IsInside}
+use Rattle.inc_entry.specs.Stored.{class_at, digest_of, is_past, part}
 use Rattle.inc_entry.specs.declared.classes.Class.{Class}
 use Rattle.inc_entry.specs.declared.classes.Class.TheVariants.{OpenAt}
-use Rattle.inc_entry.specs.declared.entry.Entry.{Entry}
-use Rattle.inc_entry.proofs.Rows.{row_of}
-use Rattle.inc_layout.specs.Backing.{class_at, digest_of, is_past, first_past}
-use Rattle.inc_layout.specs.Fixed.{IsInside}
-use Rattle.inc_layout.specs.Listed.{first_below, listed}
+use Rattle.inc_entry.proofs.BlockLemmas.{open_inside}
+use Rattle.inc_layout.specs.Listed.{listed}
 use Rattle.inc_layout.specs.Opening.{HasClasses, IsPastFault}
-use Rattle.inc_layout.specs.Parts.{part}
 use Rattle.inc_layout.specs.declared.fault.LayoutFault.{LayoutFault}
 use Rattle.inc_layout.specs.declared.fault.LayoutFault.TheVariants.{OutOfMemory, PlacePastEnd}
 use Rattle.inc_layout.proofs.ListedLemmas.{first_found, listed_more, none_more, none_yet}
@@ -31,8 +28,8 @@ byte_same bytes piece at k j is le lt =
     ∙ ap (λ (n : ℕ). get_or bytes n 0) (let e : at + (10 * k + j) ≡ at + 10 * k + j = omega arith in e)
 
 entry_same : (bytes piece : List ℕ) (at k : ℕ) → piece ≡ part (length piece) at bytes → 10 * k + 10 ≤ length piece
-    → entry_of (take 10 (drop (10 * k) piece)) 0 ≡ entry_of bytes (at + 10 * k)
-unfolding entry_of
+    → entry_from (take 10 (drop (10 * k) piece)) 0 ≡ entry_from bytes (at + 10 * k)
+unfolding entry_from
 entry_same bytes piece at k is le =
     let b0 = byte_same bytes piece at k 0 is le (omega arith) in
     let b1 = byte_same bytes piece at k 1 is le (omega arith) in
@@ -53,10 +50,10 @@ entry_same bytes piece at k is le =
 
 -- the entry of an index, in the piece that begins with the entry of another one
 pub entry_is : (places : Places) (bytes piece entry : List ℕ) (first index : ℕ) → piece ≡ part (length piece) (entry_at places first) bytes → first ≤ index
-    → 10 * (index - first) + 10 ≤ length piece → entry ≡ take 10 (drop (10 * (index - first)) piece) → entry_of entry 0 ≡ entry_of bytes (entry_at places index)
+    → 10 * (index - first) + 10 ≤ length piece → entry ≡ take 10 (drop (10 * (index - first)) piece) → entry_from entry 0 ≡ entry_from bytes (entry_at places index)
 entry_is places bytes piece entry first index is le within own =
-    ap (λ (e : List ℕ). entry_of e 0) own ∙ entry_same bytes piece (entry_at places first) (index - first) is within
-    ∙ ap (entry_of bytes) (let e : places.map_at + 10 * first + 10 * (index - first) ≡ places.map_at + 10 * index = omega arith in e)
+    ap (λ (e : List ℕ). entry_from e 0) own ∙ entry_same bytes piece (entry_at places first) (index - first) is within
+    ∙ ap (entry_from bytes) (let e : places.map_at + 10 * first + 10 * (index - first) ≡ places.map_at + 10 * index = omega arith in e)
 
 no_classes : (places : Places) (bytes : List ℕ) (classes : List Class) → classes ≡ [] → HasClasses places bytes 0 classes
 unfolding listed
@@ -79,19 +76,19 @@ piece_given (Some bytes) places first end at before room Q is some within sized 
     let read : room ≡ part (length before) at bytes = filled (omega arith) in
     on bytes (read ∙ (λ i. part (sym same i) (is i) bytes))
 
-pub more_classes : (places : Places) (bytes entry : List ℕ) (len index next : ℕ) (before after : List Class) → entry_of entry 0 ≡ entry_of bytes (entry_at places index) → len ≡ length bytes
-    → past_end places len index (entry_of entry 0) ≡ false → after ≡ before ++ class_of places len index (entry_of entry 0) ∷ [] → next ≡ suc index
+pub more_classes : (places : Places) (bytes entry : List ℕ) (len index next : ℕ) (before after : List Class) → entry_from entry 0 ≡ entry_from bytes (entry_at places index) → len ≡ length bytes
+    → past_end places len index (entry_from entry 0) ≡ false → after ≡ before ++ class_of places len index (entry_from entry 0) ∷ [] → next ≡ suc index
     → HasClasses places bytes index before → HasClasses places bytes next after
 more_classes places bytes entry len index next before after same l inside added more has =
     let not_past : is_past places bytes index ≡ false = sym (λ i. past_end places (l i) index (same i)) ∙ inside in
-    let own : class_of places len index (entry_of entry 0) ≡ class_at places bytes index = λ i. class_of places (l i) index (same i) in
+    let own : class_of places len index (entry_from entry 0) ≡ class_at places bytes index = λ i. class_of places (l i) index (same i) in
     subst (λ (n : ℕ). HasClasses places bytes n after) (sym more) (record {
       none = none_more index (is_past places bytes) has.none not_past;
       all = added ∙ (λ i. has.all i ++ own i ∷ []) ∙ listed_more (class_at places bytes) index;
     })
 
-pub past_fault : (places : Places) (bytes entry : List ℕ) (len index : ℕ) (before : List Class) (fault : LayoutFault) → entry_of entry 0 ≡ entry_of bytes (entry_at places index) → len ≡ length bytes
-    → index < entries places → (fault ≡ OutOfMemory) ⊎ ((fault ≡ PlacePastEnd index) × (past_end places len index (entry_of entry 0) ≡ true))
+pub past_fault : (places : Places) (bytes entry : List ℕ) (len index : ℕ) (before : List Class) (fault : LayoutFault) → entry_from entry 0 ≡ entry_from bytes (entry_at places index) → len ≡ length bytes
+    → index < entries places → (fault ≡ OutOfMemory) ⊎ ((fault ≡ PlacePastEnd index) × (past_end places len index (entry_from entry 0) ≡ true))
     → HasClasses places bytes index before → IsPastFault places bytes fault
 past_fault places bytes entry len index before fault same l here failed has =
     elim failed [
@@ -103,25 +100,12 @@ past_fault places bytes entry len index before fault same l here failed has =
 
 -- ---- stored blocks
 
-pub most_len : (size index : ℕ) → block_len size index ≤ 4096
-most_len size index = elim (nat_lt index (data_blocks size)) as (λ b. cond b (min 4096 (size - 4096 * index)) 4096 ≤ 4096) [ true ↦ omega arith | false ↦ omega arith ]
-
--- an open block is wholly inside the file
-pub open_inside : (places : Places) (bytes : List ℕ) (i place size : ℕ) → class_at places bytes i ≡ OpenAt place size → place + block_len places.size i ≤ length bytes
-open_inside places bytes i place size is =
-    let e : Entry = entry_of bytes (entry_at places i) in
-    let row : IsClass places (length bytes) i e (OpenAt place size) = subst (λ (c : Class). IsClass places (length bytes) i e c) is (row_of places (length bytes) i e) in
-    let within = row.0.inside in
-    let at = row.1 in
-    let most = most_len places.size i in
-    elim row.0.sized [ inl whole ↦ omega arith | inr own ↦ omega arith ]
-
 pub digest_given : (told : Option (List ℕ)) (places : Places) (index place size count : ℕ) (class : Class) (block digest : List ℕ) → class ≡ OpenAt place size
-    → count ≡ block_len places.size index
+    → count ≡ block_len places.shape index
     → IfSome told (λ bytes. place + count ≤ length bytes → block ≡ part count place bytes) → digest ≡ block_digest block
     → IfSome told (λ bytes. class ≡ class_at places bytes index → Some digest ≡ digest_of places bytes index class)
 digest_given None places index place size count class block digest is whole read hashed = tt
 digest_given (Some bytes) places index place size count class block digest is whole read hashed = λ own.
     let within = open_inside places bytes index place size (sym own ∙ is) in
-    let stored : block ≡ part (block_len places.size index) place bytes = read (omega arith) ∙ ap (λ (n : ℕ). part n place bytes) whole in
+    let stored : block ≡ part (block_len places.shape index) place bytes = read (omega arith) ∙ ap (λ (n : ℕ). part n place bytes) whole in
     (λ i. Some ((hashed ∙ ap (λ (b : List ℕ). block_digest b) stored) i)) ∙ sym (ap (digest_of places bytes index) is)

@@ -1,48 +1,48 @@
 -- The pieces of a fresh file, appended one after another, and how many zeros stand behind the blob.
-use Rattle.std.proofs.Common.{◌≡◌, ◌⊎◌, ℕ, ◌+◌, ◌-◌, ◌*◌, ◌<◌, ◌≤◌, true, false, eqb, List, [], ◌∷◌, ◌++◌, length, take, inl, inr, refl, sym, ap, ◌∙◌, append_assoc, arith}
+use Rattle.std.proofs.Common.{◌≡◌, ◌⊎◌, ℕ, ◌+◌, ◌-◌, ◌*◌, ◌<◌, ◌≤◌, true, false, eqb, List, [], ◌∷◌, ◌++◌, length, inl, inr, refl, sym, ap, ◌∙◌, append_assoc, arith}
 use Rattle.std.proofs.lemmas.Bool.{eq-eqb, eqb-true, eqb-false, ne_eqb}
-use Rattle.std.proofs.lemmas.List.{length-append, replicate-append-replicate, take_all}
+use Rattle.std.proofs.lemmas.List.{length-append, replicate-append-replicate}
 use Rattle.inc_bytes.specs.Fields.{le_bytes}
-use Rattle.inc_tree.specs.Geometry.{hash_blocks}
+use Rattle.inc_tree.specs.Geometry.{Shape, blocks_of, hash_blocks}
 use Rattle.inc_header.specs.Header.{header_bytes}
 use Rattle.inc_header.proofs.Spelling.{header_bytes-length}
-use Rattle.inc_layout.specs.Fresh.{block_start, entry_count, fresh_header, fresh_length, fresh_of, gap, map_end, map_place, map_record, record_head, signature_record, status_record, tree_bytes, tree_place, zeros}
+use Rattle.inc_layout.specs.Fresh.{block_start, entry_count, fresh_header, fresh_length, fresh_of, gap, map_end, map_place, map_record, record_head, signature_record, status_record, tree_bytes, tree_place, unsigned_length, unsigned_map_place, unsigned_of, zeros}
 
 -- ---- places
 
 -- where the tree lies
-pub record HasTree (size blob_size : ℕ) : Type 0 where
-  pub some : 0 < hash_blocks size
-  pub place : tree_place size blob_size ≡ block_start (map_end size blob_size)
-  pub between : map_end size blob_size + gap size blob_size ≡ tree_place size blob_size
-  pub whole : fresh_length size blob_size ≡ tree_place size blob_size + tree_bytes size
+pub record HasHashTree (shape : Shape) (blob_size : ℕ) : Type 0 where
+  pub some : 0 < hash_blocks shape
+  pub place : tree_place shape blob_size ≡ block_start (map_end shape blob_size)
+  pub between : map_end shape blob_size + gap shape blob_size ≡ tree_place shape blob_size
+  pub whole : fresh_length shape blob_size ≡ tree_place shape blob_size + tree_bytes shape
 
-pub record HasNoTree (size blob_size : ℕ) : Type 0 where
-  pub none : hash_blocks size ≡ 0
-  pub place : tree_place size blob_size ≡ 0
-  pub between : gap size blob_size ≡ 0
-  pub whole : fresh_length size blob_size ≡ map_end size blob_size
+pub record HasNoTree (shape : Shape) (blob_size : ℕ) : Type 0 where
+  pub none : hash_blocks shape ≡ 0
+  pub place : tree_place shape blob_size ≡ 0
+  pub between : gap shape blob_size ≡ 0
+  pub whole : fresh_length shape blob_size ≡ map_end shape blob_size
 
 start_behind : (at : ℕ) → at ≤ block_start at
 start_behind at = omega arith
 
-without_tree : (size blob_size : ℕ) → hash_blocks size ≡ 0 → HasNoTree size blob_size
+without_tree : (shape : Shape) (blob_size : ℕ) → hash_blocks shape ≡ 0 → HasNoTree shape blob_size
 unfolding tree_place gap fresh_length
-without_tree size blob_size e = record {
+without_tree shape blob_size e = record {
   none = e;
   place = rw (eq-eqb _ _ e) refl;
   between = rw (eq-eqb _ _ e) refl;
   whole = rw (eq-eqb _ _ e) refl;
 }
 
-with_tree : (size blob_size : ℕ) → 0 < hash_blocks size → HasTree size blob_size
+with_tree : (shape : Shape) (blob_size : ℕ) → 0 < hash_blocks shape → HasHashTree shape blob_size
 unfolding tree_place gap fresh_length
-with_tree size blob_size some =
-    let ne : eqb (hash_blocks size) 0 ≡ false = ne_eqb (hash_blocks size) 0 (λ e. omega (arith, e, some)) in
+with_tree shape blob_size some =
+    let ne : eqb (hash_blocks shape) 0 ≡ false = ne_eqb (hash_blocks shape) 0 (λ e. omega (arith, e, some)) in
     record {
       some = some;
       place = rw ne refl;
-      between = rw ne (omega (arith, start_behind (map_end size blob_size)));
+      between = rw ne (omega (arith, start_behind (map_end shape blob_size)));
       whole = rw ne refl;
     }
 
@@ -52,13 +52,13 @@ positive n e = let ne = eqb-false n 0 e in omega arith
 none_or_some : (n : ℕ) → (n ≡ 0) ⊎ (0 < n)
 none_or_some n = elim (eqb n 0) as (λ b. eqb n 0 ≡ b → (n ≡ 0) ⊎ (0 < n)) [ true ↦ λ e. inl (eqb-true n 0 e) | false ↦ λ e. inr (positive n e) ] refl
 
-pub tree_or_none : (size blob_size : ℕ) → HasNoTree size blob_size ⊎ HasTree size blob_size
-tree_or_none size blob_size = elim (none_or_some (hash_blocks size)) [ inl none ↦ inl (without_tree size blob_size none) | inr some ↦ inr (with_tree size blob_size some) ]
+pub tree_or_none : (shape : Shape) (blob_size : ℕ) → HasNoTree shape blob_size ⊎ HasHashTree shape blob_size
+tree_or_none shape blob_size = elim (none_or_some (hash_blocks shape)) [ inl none ↦ inl (without_tree shape blob_size none) | inr some ↦ inr (with_tree shape blob_size some) ]
 
 -- map, gap and tree end with the file
-pub all_zeros : (size blob_size : ℕ) → map_place blob_size + (10 * entry_count size + gap size blob_size + tree_bytes size) ≡ fresh_length size blob_size
-all_zeros size blob_size =
-    elim (tree_or_none size blob_size) [
+pub all_zeros : (shape : Shape) (blob_size : ℕ) → map_place blob_size + (10 * entry_count shape + gap shape blob_size + tree_bytes shape) ≡ fresh_length shape blob_size
+all_zeros shape blob_size =
+    elim (tree_or_none shape blob_size) [
       | inl t ↦ omega (arith, t.none, t.between, t.whole)
       | inr t ↦ omega (arith, t.between, t.whole)
     ]
@@ -109,23 +109,23 @@ unfolding status_record le_bytes
 status_record-length = refl
 
 -- header and records
-abbrev pub front_of : ℕ → List ℕ → ℕ → List ℕ
-front_of size id blob_size =
-    header_bytes (fresh_header size id)
-    ++ map_record (map_place blob_size) (entry_count size)
-    ++ signature_record blob_size (tree_bytes size) (tree_place size blob_size)
+abbrev pub front_of : Shape → List ℕ → ℕ → List ℕ
+front_of shape id blob_size =
+    header_bytes (fresh_header shape.size id)
+    ++ map_record (map_place blob_size) (entry_count shape)
+    ++ signature_record blob_size (tree_bytes shape) (tree_place shape blob_size)
     ++ status_record
 
-pub front-length : (size : ℕ) (id : List ℕ) (blob_size : ℕ) → length id ≡ 16 → length (front_of size id blob_size) ≡ 193
-front-length size id blob_size len =
-    let H = header_bytes (fresh_header size id) in
-    let M = map_record (map_place blob_size) (entry_count size) in
-    let S = signature_record blob_size (tree_bytes size) (tree_place size blob_size) in
+pub front-length : (shape : Shape) (id : List ℕ) (blob_size : ℕ) → length id ≡ 16 → length (front_of shape id blob_size) ≡ 193
+front-length shape id blob_size len =
+    let H = header_bytes (fresh_header shape.size id) in
+    let M = map_record (map_place blob_size) (entry_count shape) in
+    let S = signature_record blob_size (tree_bytes shape) (tree_place shape blob_size) in
     omega (
       arith,
-      header_bytes-length (fresh_header size id) len,
-      map_record-length (map_place blob_size) (entry_count size),
-      signature_record-length blob_size (tree_bytes size) (tree_place size blob_size),
+      header_bytes-length (fresh_header shape.size id) len,
+      map_record-length (map_place blob_size) (entry_count shape),
+      signature_record-length blob_size (tree_bytes shape) (tree_place shape blob_size),
       status_record-length,
       length-append (H ++ M ++ S) status_record,
       length-append (H ++ M) S,
@@ -142,28 +142,45 @@ zeros_apart front a b c =
     ∙ replicate-append-replicate a (b + c) 0
     ∙ ap zeros (let e : a + (b + c) ≡ a + b + c = omega arith in e))
 
-pub image_whole : (size : ℕ) (id blob image : List ℕ) → length id ≡ 16 → image ≡ take (fresh_length size (length blob)) (front_of size id (length blob) ++ blob) ++ zeros (fresh_length size (length blob) - length (front_of size id (length blob) ++ blob))
-    → image ≡ fresh_of size id blob
+pub image_whole : (shape : Shape) (id blob front : List ℕ) (len : ℕ) → length id ≡ 16 → front ≡ front_of shape id (length blob) ++ blob → len ≡ fresh_length shape (length blob)
+    → (front ++ zeros (len - length front) ≡ fresh_of shape id blob) × (length front ≤ len)
 unfolding fresh_of
-image_whole size id blob image len is =
-    let front = front_of size id (length blob) ++ blob in
-    let total = fresh_length size (length blob) in
-    let front-len : length front ≡ map_place (length blob) = omega (arith, length-append (front_of size id (length blob)) blob, front-length size id (length blob) len) in
-    let ends = all_zeros size (length blob) in
-    let count : total - length front ≡ 10 * entry_count size + gap size (length blob) + tree_bytes size = omega (arith, front-len, ends) in
-    is
-    ∙ ap (λ (x : List ℕ). x ++ zeros (total - length front)) (take_all total front (omega (arith, front-len, ends)))
-    ∙ ap (λ (n : ℕ). front ++ zeros n) count
-    ∙ sym (zeros_apart front (10 * entry_count size) (gap size (length blob)) (tree_bytes size))
+image_whole shape id blob front len id-len is whole =
+    let all = front_of shape id (length blob) ++ blob in
+    let all-len : length all ≡ map_place (length blob) = omega (arith, length-append (front_of shape id (length blob)) blob, front-length shape id (length blob) id-len) in
+    let front-len : length front ≡ map_place (length blob) = ap length is ∙ all-len in
+    let ends = all_zeros shape (length blob) in
+    let count : len - length front ≡ 10 * entry_count shape + gap shape (length blob) + tree_bytes shape = omega (arith, front-len, ends, whole) in (
+      (λ i. is i ++ zeros (count i)) ∙ sym (zeros_apart all (10 * entry_count shape) (gap shape (length blob)) (tree_bytes shape)),
+      omega (arith, front-len, ends, whole),
+    )
 
 -- from the numbers of the plan
-pub image_built : (size : ℕ) (id blob : List ℕ) (said map_at entries tree_size tree_at total filled : ℕ) (front body image : List ℕ) → length id ≡ 16 → said ≡ size
-    → map_at ≡ map_place (length blob) → entries ≡ entry_count size → tree_size ≡ tree_bytes size → tree_at ≡ tree_place size (length blob) → total ≡ fresh_length size (length blob)
-    → front ≡ header_bytes (fresh_header said id) ++ map_record map_at entries ++ signature_record (length blob) tree_size tree_at ++ status_record → body ≡ front ++ blob
-    → filled ≡ length body → image ≡ take total body ++ zeros (total - filled) → image ≡ fresh_of size id blob
-image_built size id blob said map_at entries tree_size tree_at total filled front body image len e1 e2 e3 e4 e5 e6 front-is body-is filled-is image-is =
-    let same : header_bytes (fresh_header said id) ++ map_record map_at entries ++ signature_record (length blob) tree_size tree_at ++ status_record ≡ front_of size id (length blob) = rw (e1, e2, e3, e4, e5) refl in
-    let whole : body ≡ front_of size id (length blob) ++ blob = body-is ∙ ap (λ (x : List ℕ). x ++ blob) (front-is ∙ same) in
-    image_whole size id blob image len
-    (image-is ∙ ap (λ (n : ℕ). take total body ++ zeros (total - n)) filled-is ∙ ap (λ (n : ℕ). take n body ++ zeros (n - length body)) e6
-    ∙ ap (λ (x : List ℕ). take (fresh_length size (length blob)) x ++ zeros (fresh_length size (length blob) - length x)) whole)
+pub front_built : (shape : Shape) (id blob : List ℕ) (said map_at entries tree_size tree_at : ℕ) (front : List ℕ) → said ≡ shape.size
+    → map_at ≡ map_place (length blob) → entries ≡ entry_count shape → tree_size ≡ tree_bytes shape → tree_at ≡ tree_place shape (length blob)
+    → front ≡ header_bytes (fresh_header said id) ++ map_record map_at entries ++ signature_record (length blob) tree_size tree_at ++ status_record ++ blob
+    → front ≡ front_of shape id (length blob) ++ blob
+front_built shape id blob said map_at entries tree_size tree_at front e1 e2 e3 e4 e5 is =
+    is ∙ (λ i. header_bytes (fresh_header (e1 i) id) ++ map_record (e2 i) (e3 i) ++ signature_record (length blob) (e4 i) (e5 i) ++ status_record ++ blob)
+
+-- ---- an unsigned file
+
+unfoldable pub unsigned_front : ℕ → List ℕ → List ℕ
+unsigned_front size id = header_bytes (fresh_header size id) ++ map_record unsigned_map_place (blocks_of size) ++ status_record
+
+pub unsigned_front-length : (size : ℕ) (id : List ℕ) → length id ≡ 16 → length (unsigned_front size id) ≡ 146
+unfolding unsigned_front
+unsigned_front-length size id len =
+    let H = header_bytes (fresh_header size id) in
+    let M = map_record unsigned_map_place (blocks_of size) in
+    omega (arith, header_bytes-length (fresh_header size id) len, map_record-length unsigned_map_place (blocks_of size), status_record-length, length-append (H ++ M) status_record, length-append H M)
+
+pub unsigned_whole : (size : ℕ) (id front : List ℕ) (said blocks len : ℕ) → length id ≡ 16 → said ≡ size → blocks ≡ blocks_of size
+    → front ≡ header_bytes (fresh_header said id) ++ map_record unsigned_map_place blocks ++ status_record → len ≡ unsigned_length size
+    → (front ++ zeros (len - length front) ≡ unsigned_of size id) × (length front ≤ len)
+unfolding unsigned_front unsigned_of
+unsigned_whole size id front said blocks len id-len e1 e2 is whole =
+    let built : front ≡ unsigned_front size id = is ∙ (λ i. header_bytes (fresh_header (e1 i) id) ++ map_record unsigned_map_place (e2 i) ++ status_record) in
+    let front-len : length front ≡ 146 = ap length built ∙ unsigned_front-length size id id-len in
+    let count : len - length front ≡ 10 * blocks_of size = omega (arith, front-len, whole) in
+    ((λ i. built i ++ zeros (count i)), omega (arith, front-len, whole))

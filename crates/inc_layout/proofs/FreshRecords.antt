@@ -14,17 +14,18 @@ use Rattle.inc_md.specs.Record.{head_of, map_fields, sig_fields, status_fields, 
 use Rattle.inc_md.specs.Chain.{first_of_kind, record_tests, records_of}
 use Rattle.inc_md.specs.Outcome.{IsChain}
 use Rattle.inc_md.proofs.ChainLaws.{Passes, whole}
+use Rattle.inc_tree.specs.Geometry.{Shape}
 use Rattle.inc_layout.specs.Fresh.{entry_count, map_place, map_record, signature_record, status_record, tree_bytes, tree_place}
 use Rattle.inc_layout.proofs.FreshPieces.{map_record-length, signature_record-length, status_record-length}
 use Rattle.inc_layout.proofs.FreshStands.{Pieces, field_there, head_there}
 
 -- ---- what the records say
 
-abbrev pub fresh_map : ℕ → ℕ → MapRecord
-fresh_map size blob_size = record { base = map_place blob_size; count = entry_count size }
+abbrev pub fresh_map : Shape → ℕ → MapRecord
+fresh_map shape blob_size = record { base = map_place blob_size; count = entry_count shape }
 
-abbrev pub fresh_signature : ℕ → ℕ → SigRecord
-fresh_signature size blob_size = record { sig_size = blob_size; sig_at = 193; tree_size = tree_bytes size; tree_at = tree_place size blob_size }
+abbrev pub fresh_signature : Shape → ℕ → SigRecord
+fresh_signature shape blob_size = record { sig_size = blob_size; sig_at = 193; tree_size = tree_bytes shape; tree_at = tree_place shape blob_size }
 
 abbrev pub fresh_status : StatusRecord
 fresh_status = record { at = 161; data_written = 0; hash_written = 0 }
@@ -32,10 +33,10 @@ fresh_status = record { at = 161; data_written = 0; hash_written = 0 }
 abbrev pub fresh_spans : List Span
 fresh_spans = record { at = 56; len = 35 } ∷ record { at = 91; len = 47 } ∷ record { at = 138; len = 55 } ∷ []
 
-abbrev pub fresh_records : ℕ → ℕ → Records
-fresh_records size blob_size = record {
-  map = Some (fresh_map size blob_size);
-  signature = Some (fresh_signature size blob_size);
+abbrev pub fresh_records : Shape → ℕ → Records
+fresh_records shape blob_size = record {
+  map = Some (fresh_map shape blob_size);
+  signature = Some (fresh_signature shape blob_size);
   status = Some fresh_status;
   spans = fresh_spans;
   last = 138;
@@ -45,13 +46,13 @@ abbrev places : List ℕ
 places = 56 ∷ 91 ∷ 138 ∷ []
 
 -- the numbers of the records fit their fields
-pub record Fitting (size blob_size : ℕ) : Type 0 where
+pub record Fitting (shape : Shape) (blob_size : ℕ) : Type 0 where
   pub blob : blob_size ≤ 8096
-  pub count : entry_count size < 2 ^ 32
-  pub tree : tree_bytes size < 2 ^ 32
-  pub place : tree_place size blob_size < 2 ^ 64
+  pub count : entry_count shape < 2 ^ 32
+  pub tree : tree_bytes shape < 2 ^ 32
+  pub place : tree_place shape blob_size < 2 ^ 64
 
-map_head : (base count : ℕ) → head_of (map_record base count) 0 ≡ record { kind = 1; size = 35; next = 91 }
+pub map_head : (base count : ℕ) → head_of (map_record base count) 0 ≡ record { kind = 1; size = 35; next = 91 }
 unfolding head_of map_record le_bytes
 map_head base count = refl
 
@@ -59,15 +60,15 @@ signature_head : (blob_size tree_size tree_at : ℕ) → head_of (signature_reco
 unfolding head_of signature_record le_bytes
 signature_head blob_size tree_size tree_at = refl
 
-status_head : head_of status_record 0 ≡ record { kind = 4; size = 55; next = 0 }
+pub status_head : head_of status_record 0 ≡ record { kind = 4; size = 55; next = 0 }
 unfolding head_of status_record le_bytes
 status_head = refl
 
-map_base : (base count : ℕ) → base < 2 ^ 64 → field 8 23 (map_record base count) ≡ base
+pub map_base : (base count : ℕ) → base < 2 ^ 64 → field 8 23 (map_record base count) ≡ base
 unfolding map_record le_bytes
 map_base base count lt = le_number-le_bytes 8 base lt
 
-map_entries : (base count : ℕ) → count < 2 ^ 32 → field 4 31 (map_record base count) ≡ count
+pub map_entries : (base count : ℕ) → count < 2 ^ 32 → field 4 31 (map_record base count) ≡ count
 unfolding map_record le_bytes
 map_entries base count lt = le_number-le_bytes 4 count lt
 
@@ -87,11 +88,11 @@ tree_at_in : (blob_size tree_size tree_at : ℕ) → tree_at < 2 ^ 64 → field 
 unfolding signature_record le_bytes
 tree_at_in blob_size tree_size tree_at lt = le_number-le_bytes 8 tree_at lt
 
-status_data : field 4 23 status_record ≡ 0
+pub status_data : field 4 23 status_record ≡ 0
 unfolding status_record le_bytes
 status_data = refl
 
-status_hash : field 4 27 status_record ≡ 0
+pub status_hash : field 4 27 status_record ≡ 0
 unfolding status_record le_bytes
 status_hash = refl
 
@@ -102,32 +103,32 @@ pub record Heads (bytes : List ℕ) : Type 0 where
   pub at_signature : head_of bytes 91 ≡ record { kind = 3; size = 47; next = 138 }
   pub at_status : head_of bytes 138 ≡ record { kind = 4; size = 55; next = 0 }
 
-pub heads_of : (size : ℕ) (id blob bytes : List ℕ) → Pieces size id blob bytes → Heads bytes
-heads_of size id blob bytes p =
-    let M = map_record (map_place (length blob)) (entry_count size) in
-    let S = signature_record (length blob) (tree_bytes size) (tree_place size (length blob)) in
-    let M-len = map_record-length (map_place (length blob)) (entry_count size) in
-    let S-len = signature_record-length (length blob) (tree_bytes size) (tree_place size (length blob)) in
+pub heads_of : (shape : Shape) (id blob bytes : List ℕ) → Pieces shape id blob bytes → Heads bytes
+heads_of shape id blob bytes p =
+    let M = map_record (map_place (length blob)) (entry_count shape) in
+    let S = signature_record (length blob) (tree_bytes shape) (tree_place shape (length blob)) in
+    let M-len = map_record-length (map_place (length blob)) (entry_count shape) in
+    let S-len = signature_record-length (length blob) (tree_bytes shape) (tree_place shape (length blob)) in
     let T-len = status_record-length in
     record {
-      at_map = head_there M bytes 56 p.map_there (omega (arith, M-len)) ∙ map_head (map_place (length blob)) (entry_count size);
-      at_signature = head_there S bytes 91 p.signature_there (omega (arith, S-len)) ∙ signature_head (length blob) (tree_bytes size) (tree_place size (length blob));
+      at_map = head_there M bytes 56 p.map_there (omega (arith, M-len)) ∙ map_head (map_place (length blob)) (entry_count shape);
+      at_signature = head_there S bytes 91 p.signature_there (omega (arith, S-len)) ∙ signature_head (length blob) (tree_bytes shape) (tree_place shape (length blob));
       at_status = head_there status_record bytes 138 p.status_there (omega (arith, T-len)) ∙ status_head;
     }
 
-map_said : (size : ℕ) (id blob bytes : List ℕ) → Pieces size id blob bytes → Fitting size (length blob) → map_fields bytes 79 ≡ fresh_map size (length blob)
-map_said size id blob bytes p f =
-    let M = map_record (map_place (length blob)) (entry_count size) in
-    let M-len = map_record-length (map_place (length blob)) (entry_count size) in
-    let base = field_there M bytes 56 23 8 p.map_there (omega (arith, M-len)) ∙ map_base (map_place (length blob)) (entry_count size) (omega (arith, f.blob)) in
-    let count = field_there M bytes 56 31 4 p.map_there (omega (arith, M-len)) ∙ map_entries (map_place (length blob)) (entry_count size) f.count in
+map_said : (shape : Shape) (id blob bytes : List ℕ) → Pieces shape id blob bytes → Fitting shape (length blob) → map_fields bytes 79 ≡ fresh_map shape (length blob)
+map_said shape id blob bytes p f =
+    let M = map_record (map_place (length blob)) (entry_count shape) in
+    let M-len = map_record-length (map_place (length blob)) (entry_count shape) in
+    let base = field_there M bytes 56 23 8 p.map_there (omega (arith, M-len)) ∙ map_base (map_place (length blob)) (entry_count shape) (omega (arith, f.blob)) in
+    let count = field_there M bytes 56 31 4 p.map_there (omega (arith, M-len)) ∙ map_entries (map_place (length blob)) (entry_count shape) f.count in
     λ i. record { base = base i; count = count i }
 
-signature_said : (size : ℕ) (id blob bytes : List ℕ) → Pieces size id blob bytes → Fitting size (length blob) → sig_fields bytes 114 ≡ fresh_signature size (length blob)
-signature_said size id blob bytes p f =
+signature_said : (shape : Shape) (id blob bytes : List ℕ) → Pieces shape id blob bytes → Fitting shape (length blob) → sig_fields bytes 114 ≡ fresh_signature shape (length blob)
+signature_said shape id blob bytes p f =
     let b = length blob in
-    let z = tree_bytes size in
-    let t = tree_place size b in
+    let z = tree_bytes shape in
+    let t = tree_place shape b in
     let S = signature_record b z t in
     let S-len = signature_record-length b z t in
     let sig_size = field_there S bytes 91 23 4 p.signature_there (omega (arith, S-len)) ∙ blob_size_in b z t (omega (arith, f.blob)) in
@@ -136,8 +137,8 @@ signature_said size id blob bytes p f =
     let tree_at = field_there S bytes 91 39 8 p.signature_there (omega (arith, S-len)) ∙ tree_at_in b z t f.place in
     λ i. record { sig_size = sig_size i; sig_at = sig_at i; tree_size = tree_size i; tree_at = tree_at i }
 
-status_said : (size : ℕ) (id blob bytes : List ℕ) → Pieces size id blob bytes → status_fields bytes 161 ≡ fresh_status
-status_said size id blob bytes p =
+status_said : (shape : Shape) (id blob bytes : List ℕ) → Pieces shape id blob bytes → status_fields bytes 161 ≡ fresh_status
+status_said shape id blob bytes p =
     let T-len = status_record-length in
     let data_written = field_there status_record bytes 138 23 4 p.status_there (omega (arith, T-len)) ∙ status_data in
     let hash_written = field_there status_record bytes 138 27 4 p.status_there (omega (arith, T-len)) ∙ status_hash in
@@ -151,13 +152,13 @@ first_is bytes kind h = rw (h.at_map, h.at_signature, h.at_status) refl
 spans_are : (bytes : List ℕ) → Heads bytes → map (span_of bytes) places ≡ fresh_spans
 spans_are bytes h = rw (h.at_map, h.at_signature, h.at_status) refl
 
-pub records_are : (size : ℕ) (id blob bytes : List ℕ) → Pieces size id blob bytes → Fitting size (length blob) → records_of bytes places ≡ fresh_records size (length blob)
+pub records_are : (shape : Shape) (id blob bytes : List ℕ) → Pieces shape id blob bytes → Fitting shape (length blob) → records_of bytes places ≡ fresh_records shape (length blob)
 unfolding records_of
-records_are size id blob bytes p f =
-    let h = heads_of size id blob bytes p in
-    let m = ap (option_map (λ place. map_fields bytes (place + 23))) (first_is bytes 1 h) ∙ ap (λ (r : MapRecord). Some r) (map_said size id blob bytes p f) in
-    let s = ap (option_map (λ place. sig_fields bytes (place + 23))) (first_is bytes 3 h) ∙ ap (λ (r : SigRecord). Some r) (signature_said size id blob bytes p f) in
-    let t = ap (option_map (λ place. status_fields bytes (place + 23))) (first_is bytes 4 h) ∙ ap (λ (r : StatusRecord). Some r) (status_said size id blob bytes p) in
+records_are shape id blob bytes p f =
+    let h = heads_of shape id blob bytes p in
+    let m = ap (option_map (λ place. map_fields bytes (place + 23))) (first_is bytes 1 h) ∙ ap (λ (r : MapRecord). Some r) (map_said shape id blob bytes p f) in
+    let s = ap (option_map (λ place. sig_fields bytes (place + 23))) (first_is bytes 3 h) ∙ ap (λ (r : SigRecord). Some r) (signature_said shape id blob bytes p f) in
+    let t = ap (option_map (λ place. status_fields bytes (place + 23))) (first_is bytes 4 h) ∙ ap (λ (r : StatusRecord). Some r) (status_said shape id blob bytes p) in
     let spans = spans_are bytes h in
     λ i. record { map = m i; signature = s i; status = t i; spans = spans i; last = 138 }
 
@@ -169,15 +170,15 @@ one_met bytes kind h = rw h.at_map refl
 two_met : (bytes : List ℕ) (kind : ℕ) → Heads bytes → first_of_kind bytes kind (56 ∷ 91 ∷ []) ≡ cond (eqb 1 kind) (Some 56) (cond (eqb 3 kind) (Some 91) None)
 two_met bytes kind h = rw (h.at_map, h.at_signature) refl
 
-passes_with : (bytes : List ℕ) (len : ℕ) (met : List ℕ) (at : ℕ) (mapped signed : Bool) (head : Head) → head_of bytes at ≡ head
+pub passes_with : (bytes : List ℕ) (len : ℕ) (met : List ℕ) (at : ℕ) (mapped signed : Bool) (head : Head) → head_of bytes at ≡ head
     → is_some (first_of_kind bytes 1 met) ≡ mapped → is_some (first_of_kind bytes 3 met) ≡ signed → Passes (length met) mapped signed len at head → first_failing (record_tests bytes len met at) ≡ None
 passes_with bytes len met at mapped signed head is map-is signature-is p =
     rw (is, map-is, signature-is) (whole (length met) mapped signed len at head p)
 
-pub fresh_chain : (size : ℕ) (id blob bytes : List ℕ) (need_map : Bool) → Pieces size id blob bytes → Fitting size (length blob) → 193 ≤ length bytes
-    → IsChain bytes (length bytes) 56 need_map (fresh_records size (length blob))
-fresh_chain size id blob bytes need_map p f long =
-    let h = heads_of size id blob bytes p in
+pub fresh_chain : (shape : Shape) (id blob bytes : List ℕ) (need_map : Bool) → Pieces shape id blob bytes → Fitting shape (length blob) → 193 ≤ length bytes
+    → IsChain bytes (length bytes) 56 need_map (fresh_records shape (length blob))
+fresh_chain shape id blob bytes need_map p f long =
+    let h = heads_of shape id blob bytes p in
     let len = length bytes in
     let map_passes = passes_with bytes len [] 56 false false (record { kind = 1; size = 35; next = 91 }) h.at_map refl refl
     (record { few = omega arith; begins = omega arith; sized = refl; ends = omega arith; one_map = refl; one_signature = refl; rises = refl }) in
@@ -192,6 +193,6 @@ fresh_chain size id blob bytes need_map p f long =
       places = places;
       whole = (refl, omega arith, map_passes, (ap next_of h.at_map, omega arith, signature_passes, (ap next_of h.at_signature, omega arith, status_passes, ap next_of h.at_status)));
       few = omega arith;
-      said = sym (records_are size id blob bytes p f);
+      said = sym (records_are shape id blob bytes p f);
       mapped = λ _. refl;
     }

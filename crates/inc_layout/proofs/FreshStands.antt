@@ -5,9 +5,10 @@ use Rattle.inc_bytes.specs.Fields.{le_number, field}
 use Rattle.inc_md.specs.Record.{head_of}
 use Rattle.inc_header.specs.Header.{header_bytes}
 use Rattle.inc_header.proofs.Spelling.{header_bytes-length}
-use Rattle.inc_layout.specs.Fresh.{entry_count, fresh_header, fresh_length, fresh_of, gap, map_place, map_record, signature_record, status_record, tree_bytes, tree_place, zeros}
-use Rattle.inc_layout.specs.Parts.{part}
-use Rattle.inc_layout.proofs.FreshPieces.{all_zeros, front-length, map_record-length, signature_record-length}
+use Rattle.inc_tree.specs.Geometry.{Shape, blocks_of}
+use Rattle.inc_layout.specs.Fresh.{entry_count, fresh_header, fresh_length, fresh_of, gap, map_place, map_record, signature_record, status_record, tree_bytes, tree_place, unsigned_length, unsigned_map_place, unsigned_of, zeros}
+use Rattle.inc_entry.specs.Stored.{part}
+use Rattle.inc_layout.proofs.FreshPieces.{all_zeros, front-length, map_record-length, signature_record-length, unsigned_front, unsigned_front-length}
 
 -- ---- a piece in a list
 
@@ -67,31 +68,31 @@ head_there piece bytes at s le =
 
 -- ---- the pieces of a fresh file
 
-pub record Pieces (size : ℕ) (id blob bytes : List ℕ) : Type 0 where
-  pub header : StandsAt (header_bytes (fresh_header size id)) bytes 0
-  pub map_there : StandsAt (map_record (map_place (length blob)) (entry_count size)) bytes 56
-  pub signature_there : StandsAt (signature_record (length blob) (tree_bytes size) (tree_place size (length blob))) bytes 91
+pub record Pieces (shape : Shape) (id blob bytes : List ℕ) : Type 0 where
+  pub header : StandsAt (header_bytes (fresh_header shape.size id)) bytes 0
+  pub map_there : StandsAt (map_record (map_place (length blob)) (entry_count shape)) bytes 56
+  pub signature_there : StandsAt (signature_record (length blob) (tree_bytes shape) (tree_place shape (length blob))) bytes 91
   pub status_there : StandsAt status_record bytes 138
   pub blob_there : StandsAt blob bytes 193
-  pub entries_there : StandsAt (zeros (10 * entry_count size)) bytes (map_place (length blob))
-  pub whole : length bytes ≡ fresh_length size (length blob)
+  pub entries_there : StandsAt (zeros (10 * entry_count shape)) bytes (map_place (length blob))
+  pub whole : length bytes ≡ fresh_length shape (length blob)
 
-pub pieces_of : (size : ℕ) (id blob : List ℕ) → length id ≡ 16 → Pieces size id blob (fresh_of size id blob)
+pub pieces_of : (shape : Shape) (id blob : List ℕ) → length id ≡ 16 → Pieces shape id blob (fresh_of shape id blob)
 unfolding fresh_of
-pieces_of size id blob id-len =
-    let H = header_bytes (fresh_header size id) in
-    let M = map_record (map_place (length blob)) (entry_count size) in
-    let S = signature_record (length blob) (tree_bytes size) (tree_place size (length blob)) in
+pieces_of shape id blob id-len =
+    let H = header_bytes (fresh_header shape.size id) in
+    let M = map_record (map_place (length blob)) (entry_count shape) in
+    let S = signature_record (length blob) (tree_bytes shape) (tree_place shape (length blob)) in
     let T = status_record in
-    let E = zeros (10 * entry_count size) in
-    let G = zeros (gap size (length blob)) in
-    let R = zeros (tree_bytes size) in
-    let H-len : length H ≡ 56 = header_bytes-length (fresh_header size id) id-len in
-    let M-len : length M ≡ 35 = map_record-length (map_place (length blob)) (entry_count size) in
-    let S-len : length S ≡ 47 = signature_record-length (length blob) (tree_bytes size) (tree_place size (length blob)) in
+    let E = zeros (10 * entry_count shape) in
+    let G = zeros (gap shape (length blob)) in
+    let R = zeros (tree_bytes shape) in
+    let H-len : length H ≡ 56 = header_bytes-length (fresh_header shape.size id) id-len in
+    let M-len : length M ≡ 35 = map_record-length (map_place (length blob)) (entry_count shape) in
+    let S-len : length S ≡ 47 = signature_record-length (length blob) (tree_bytes shape) (tree_place shape (length blob)) in
     let HM-len : length (H ++ M) ≡ 91 = omega (arith, H-len, M-len, length-append H M) in
     let HMS-len : length (H ++ M ++ S) ≡ 138 = omega (arith, HM-len, S-len, length-append (H ++ M) S) in
-    let front-len : length (H ++ M ++ S ++ T) ≡ 193 = front-length size id (length blob) id-len in
+    let front-len : length (H ++ M ++ S ++ T) ≡ 193 = front-length shape id (length blob) id-len in
     let B-len : length (H ++ M ++ S ++ T ++ blob) ≡ map_place (length blob) = omega (arith, front-len, length-append (H ++ M ++ S ++ T) blob) in
     let more = λ (piece bytes : List ℕ) (at : ℕ) (s : StandsAt piece bytes at). with_more piece (bytes ++ E ++ G) R at (with_more piece (bytes ++ E) G at (with_more piece bytes E at s)) in
     record {
@@ -104,12 +105,40 @@ pieces_of size id blob id-len =
       whole = omega (
         arith,
         B-len,
-        all_zeros size (length blob),
+        all_zeros shape (length blob),
         length-append (H ++ M ++ S ++ T ++ blob ++ E ++ G) R,
         length-append (H ++ M ++ S ++ T ++ blob ++ E) G,
         length-append (H ++ M ++ S ++ T ++ blob) E,
-        length-replicate {A = ℕ} (10 * entry_count size) 0,
-        length-replicate {A = ℕ} (gap size (length blob)) 0,
-        length-replicate {A = ℕ} (tree_bytes size) 0,
+        length-replicate {A = ℕ} (10 * entry_count shape) 0,
+        length-replicate {A = ℕ} (gap shape (length blob)) 0,
+        length-replicate {A = ℕ} (tree_bytes shape) 0,
       );
+    }
+
+-- ---- the pieces of a fresh unsigned file
+
+pub record UnsignedPieces (size : ℕ) (id bytes : List ℕ) : Type 0 where
+  pub header : StandsAt (header_bytes (fresh_header size id)) bytes 0
+  pub map_there : StandsAt (map_record unsigned_map_place (blocks_of size)) bytes 56
+  pub status_there : StandsAt status_record bytes 91
+  pub entries_there : StandsAt (zeros (10 * blocks_of size)) bytes unsigned_map_place
+  pub whole : length bytes ≡ unsigned_length size
+
+pub unsigned_pieces : (size : ℕ) (id : List ℕ) → length id ≡ 16 → UnsignedPieces size id (unsigned_of size id)
+unfolding unsigned_of unsigned_front
+unsigned_pieces size id id-len =
+    let H = header_bytes (fresh_header size id) in
+    let M = map_record unsigned_map_place (blocks_of size) in
+    let T = status_record in
+    let E = zeros (10 * blocks_of size) in
+    let H-len : length H ≡ 56 = header_bytes-length (fresh_header size id) id-len in
+    let M-len : length M ≡ 35 = map_record-length unsigned_map_place (blocks_of size) in
+    let HM-len : length (H ++ M) ≡ 91 = omega (arith, H-len, M-len, length-append H M) in
+    let front-len : length (H ++ M ++ T) ≡ 146 = unsigned_front-length size id id-len in
+    record {
+      header = with_more H (H ++ M ++ T) E 0 (with_more H (H ++ M) T 0 (with_more H H M 0 (last_piece [] H 0 refl)));
+      map_there = with_more M (H ++ M ++ T) E 56 (with_more M (H ++ M) T 56 (last_piece H M 56 H-len));
+      status_there = with_more T (H ++ M ++ T) E 91 (last_piece (H ++ M) T 91 HM-len);
+      entries_there = last_piece (H ++ M ++ T) E 146 front-len;
+      whole = omega (arith, front-len, length-append (H ++ M ++ T) E, length-replicate {A = ℕ} (10 * blocks_of size) 0);
     }

@@ -1,21 +1,20 @@
 -- The loops over stored blocks and over a path, over a content that may not be told.
-use Rattle.std.proofs.Common.{◌≡◌, ℕ, suc, ◌+◌, ◌*◌, ◌<◌, ◌≤◌, Bool, true, false, List, [], ◌∷◌, ◌++◌, length, take, get_or, Option, Some, None, Result, Ok, Err, inl, inr, refl, sym, ap, ◌∙◌, subst, arith}
+use Rattle.std.proofs.Common.{◌≡◌, ℕ, suc, ◌+◌, ◌-◌, ◌<◌, ◌≤◌, Bool, true, false, List, [], ◌∷◌, ◌++◌, length, take, drop, get_or, replicate, Option, Some, None, Ok, Err, inl, inr, sym, ap, ◌∙◌, subst, arith, length-take, length-drop}
 use Rattle.std.specs.Prelude.{IfSome, is_some, not}
 use Rattle.std.proofs.Math.ListN.{get_or-append}
-use Rattle.std.proofs.Math.Seq.{get_or-append_seam, take-length}
+use Rattle.std.proofs.Math.Seq.{get_or-append_seam, take-append_seam}
 use Rattle.std.proofs.lemmas.Bool.{cases_lt}
+use Rattle.std.proofs.lemmas.List.{append-nil, drop-replicate}
 use Rattle.inc_tree.specs.Geometry.{data_blocks, depth, hash_blocks, path_block}
-use Rattle.inc_entry.specs.Entry.{Places, entries}
+use Rattle.inc_tree.specs.Path.{padded}
+use Rattle.inc_entry.specs.Entry.{Places, area_places, entries, hash_block_place, tree_span}
+use Rattle.inc_entry.specs.Spans.{IsInside}
+use Rattle.inc_entry.specs.Stored.{class_at, digest_of, is_open_class, part, stored_digest}
 use Rattle.inc_entry.specs.declared.areas.Areas.{Areas}
 use Rattle.inc_entry.specs.declared.classes.Class.{Class}
 use Rattle.inc_entry.specs.declared.classes.Class.TheVariants.{Damaged}
-use Rattle.inc_layout.specs.Backing.{class_at, digest_of, stored_digest}
 use Rattle.inc_layout.specs.Listed.{first_below, listed}
-use Rattle.inc_layout.specs.Opening.{is_open_class}
-use Rattle.inc_layout.specs.Parts.{part}
-use Rattle.inc_layout.specs.StaticRead.{class_in, first_missing, hash_block, is_missing, missing_error, size_in}
-use Rattle.inc_layout.specs.declared.opened.Opened.{Opened}
-use Rattle.inc_layout.specs.declared.static_error.StaticError.{StaticError}
+use Rattle.inc_layout.specs.StaticRead.{class_in, first_missing, hash_block, is_missing, missing_error}
 use Rattle.inc_layout.specs.declared.static_error.StaticError.TheVariants.{PathAbsent}
 use Rattle.inc_layout.proofs.ListedLemmas.{first_found, listed_at, listed_more, none_more}
 
@@ -60,46 +59,81 @@ there_more index class classes digests digest is count here before i lt =
 
 -- ---- the hash blocks of a path
 
-abbrev pub HasTree : Areas → List ℕ → Type 0
-HasTree areas bytes = 0 < hash_blocks areas.geometry → areas.hash_at + 4096 * hash_blocks areas.geometry ≤ length bytes
+-- as many bytes as the file has there
+pub length-part : (n at : ℕ) (bytes : List ℕ) → at + n ≤ length bytes → length (part n at bytes) ≡ n
+length-part n at bytes le = omega (arith, length-take n (drop at bytes), length-drop at bytes)
+
+-- a whole block has no zeros behind it
+pub padded_whole : (xs : List ℕ) → length xs ≡ 4096 → padded xs ≡ xs
+padded_whole xs e = (let none : 4096 - length xs ≡ 0 = omega arith in ap (λ (n : ℕ). xs ++ replicate n 0) none) ∙ append-nil xs
+
+-- the bytes of a padded block
+pub padded_front : (n : ℕ) (xs : List ℕ) → length xs ≡ n → take n (padded xs) ≡ xs
+padded_front n xs e = ap (λ (k : ℕ). take k (padded xs)) (sym e) ∙ take-append_seam xs (replicate (4096 - length xs) 0)
+
+-- zeros stand behind a block that was read into a room of zeros
+pub block_given : (told : Option (List ℕ)) (place len : ℕ) (before room block : List ℕ) → before ≡ replicate 4096 0 → len ≤ 4096
+    → IfSome told (λ bytes. place + len ≤ length bytes → room ≡ part len place bytes ++ drop len before) → block ≡ room
+    → IfSome told (λ bytes. place + len ≤ length bytes → block ≡ padded (part len place bytes))
+block_given None place len before room block zeros le read is = tt
+block_given (Some bytes) place len before room block zeros le read is = λ within.
+    let sized : length (part len place bytes) ≡ len = length-part len place bytes within in
+    let rest : drop len (replicate 4096 0) ≡ replicate (4096 - length (part len place bytes)) 0 = drop-replicate len 4096 0 ∙ ap (λ (n : ℕ). replicate (4096 - n) 0) (sym sized) in
+    is ∙ read within ∙ ap (λ (xs : List ℕ). part len place bytes ++ xs) (ap (drop len) zeros ∙ rest)
+
+-- the hash block on a level of the path
+abbrev pub on_path : List ℕ → Areas → ℕ → ℕ → List ℕ
+on_path bytes areas index level = hash_block bytes areas (path_block areas.geometry index level)
+
+-- a whole tree lies inside the file
+abbrev pub HasAll : Areas → List ℕ → Type 0
+HasAll areas bytes = IsInside (length bytes) (tree_span (area_places areas))
 
 pub path_start : (told : Option (List ℕ)) (areas : Areas) (index : ℕ) (blocks : List (List ℕ)) → blocks ≡ []
-    → IfSome told (λ bytes. HasTree areas bytes → blocks ≡ listed (hash_block bytes areas index) 0)
+    → IfSome told (λ bytes. HasAll areas bytes → blocks ≡ listed (on_path bytes areas index) 0)
 unfolding listed
 path_start None areas index blocks e = tt
 path_start (Some bytes) areas index blocks e = λ tree. e
 
-whole_take : (n : ℕ) (xs : List ℕ) → length xs ≡ n → take n xs ≡ xs
-whole_take n xs e = ap (λ (m : ℕ). take m xs) (sym e) ∙ take-length xs
-
-pub path_more : (told : Option (List ℕ)) (areas : Areas) (index level at : ℕ) (blocks : List (List ℕ)) (block : List ℕ) → at ≡ areas.hash_at + 4096 * path_block areas.geometry index level
-    → path_block areas.geometry index level < hash_blocks areas.geometry → length block ≡ 4096
-    → IfSome told (λ bytes. HasTree areas bytes → blocks ≡ listed (hash_block bytes areas index) level)
-    → IfSome told (λ bytes. at + 4096 ≤ length bytes → take 4096 block ≡ part 4096 at bytes)
-    → IfSome told (λ bytes. HasTree areas bytes → blocks ++ block ∷ [] ≡ listed (hash_block bytes areas index) (suc level))
-path_more None areas index level at blocks block is lt whole front next = tt
-path_more (Some bytes) areas index level at blocks block is lt whole front next = λ tree.
+-- one hash block, by its number
+pub hash_read : (bytes : List ℕ) (areas : Areas) (number at : ℕ) (block : List ℕ) → at ≡ hash_block_place (area_places areas) number → number < hash_blocks areas.geometry → HasAll areas bytes
+    → (at + 4096 ≤ length bytes → block ≡ padded (part 4096 at bytes)) → block ≡ hash_block bytes areas number
+hash_read bytes areas number at block is lt tree read =
     let end = tree (omega arith) in
-    let here : block ≡ hash_block bytes areas index level = sym (whole_take 4096 block whole) ∙ next (omega arith) ∙ ap (λ (place : ℕ). part 4096 place bytes) is in
-    (λ i. front tree i ++ here i ∷ []) ∙ listed_more (hash_block bytes areas index) level
+    let within : at + 4096 ≤ length bytes = omega arith in
+    read within ∙ padded_whole (part 4096 at bytes) (length-part 4096 at bytes within) ∙ ap (λ (place : ℕ). part 4096 place bytes) is
+
+pub path_more : (told : Option (List ℕ)) (areas : Areas) (index level number at : ℕ) (blocks : List (List ℕ)) (block : List ℕ) → number ≡ path_block areas.geometry index level
+    → at ≡ hash_block_place (area_places areas) number → number < hash_blocks areas.geometry
+    → IfSome told (λ bytes. HasAll areas bytes → blocks ≡ listed (on_path bytes areas index) level)
+    → IfSome told (λ bytes. at + 4096 ≤ length bytes → block ≡ padded (part 4096 at bytes))
+    → IfSome told (λ bytes. HasAll areas bytes → blocks ++ block ∷ [] ≡ listed (on_path bytes areas index) (suc level))
+path_more None areas index level number at blocks block n is lt front next = tt
+path_more (Some bytes) areas index level number at blocks block n is lt front next = λ tree.
+    let here : block ≡ on_path bytes areas index level = hash_read bytes areas number at block is lt tree next ∙ ap (hash_block bytes areas) n in
+    (λ i. front tree i ++ here i ∷ []) ∙ listed_more (on_path bytes areas index) level
 
 -- ---- the hash blocks that haven't arrived
 
-missing_is : (opened : Opened) (index level hash : ℕ) (there : Bool) → hash ≡ path_block (size_in opened) index level → there ≡ is_open_class (class_in opened (data_blocks (size_in opened) + hash))
-    → is_missing opened index level ≡ not there
-missing_is opened index level hash there h is = sym (ap not (is ∙ ap (λ (n : ℕ). is_open_class (class_in opened (data_blocks (size_in opened) + n))) h))
+missing_is : (areas : Areas) (classes : List Class) (index level hash : ℕ) (there : Bool) → hash ≡ path_block areas.geometry index level
+    → there ≡ is_open_class (class_in classes (data_blocks areas.geometry + hash)) → is_missing areas classes index level ≡ not there
+missing_is areas classes index level hash there h is = sym (ap not (is ∙ ap (λ (n : ℕ). is_open_class (class_in classes (data_blocks areas.geometry + n))) h))
 
-pub none_missing : (opened : Opened) (index level hash : ℕ) (there : Bool) → first_below level (is_missing opened index) ≡ None → hash ≡ path_block (size_in opened) index level
-    → there ≡ is_open_class (class_in opened (data_blocks (size_in opened) + hash)) → there ≡ true → first_below (suc level) (is_missing opened index) ≡ None
-none_missing opened index level hash there none h is arrived = none_more level (is_missing opened index) none (missing_is opened index level hash there h is ∙ ap not arrived)
+pub none_missing : (areas : Areas) (classes : List Class) (index level hash : ℕ) (there : Bool) → first_below level (is_missing areas classes index) ≡ None
+    → hash ≡ path_block areas.geometry index level → there ≡ is_open_class (class_in classes (data_blocks areas.geometry + hash)) → there ≡ true
+    → first_below (suc level) (is_missing areas classes index) ≡ None
+none_missing areas classes index level hash there none h is arrived =
+    none_more level (is_missing areas classes index) none (missing_is areas classes index level hash there h is ∙ ap not arrived)
 
-pub one_missing : (opened : Opened) (index level hash : ℕ) (there : Bool) → first_below level (is_missing opened index) ≡ None → level < depth (size_in opened) → hash ≡ path_block (size_in opened) index level
-    → there ≡ is_open_class (class_in opened (data_blocks (size_in opened) + hash)) → there ≡ false → Err (PathAbsent hash) ≡ missing_error opened index (first_missing opened index)
-one_missing opened index level hash there none lt h is missing =
-    let found : first_missing opened index ≡ Some level = first_found (depth (size_in opened)) level (is_missing opened index) none (missing_is opened index level hash there h is ∙ ap not missing) lt in
-    ap (λ (n : ℕ). Err (PathAbsent n)) h ∙ sym (ap (missing_error opened index) found)
+pub one_missing : (areas : Areas) (classes : List Class) (index level hash : ℕ) (there : Bool) → first_below level (is_missing areas classes index) ≡ None → level < depth areas.geometry
+    → hash ≡ path_block areas.geometry index level → there ≡ is_open_class (class_in classes (data_blocks areas.geometry + hash)) → there ≡ false
+    → Err (PathAbsent hash) ≡ missing_error areas index (first_missing areas classes index)
+one_missing areas classes index level hash there none lt h is missing =
+    let found : first_missing areas classes index ≡ Some level = first_found (depth areas.geometry) level (is_missing areas classes index) none (missing_is areas classes index level hash there h is ∙ ap not missing) lt in
+    ap (λ (n : ℕ). Err (PathAbsent n)) h ∙ sym (ap (missing_error areas index) found)
 
-pub all_there : (opened : Opened) (index level : ℕ) → first_below level (is_missing opened index) ≡ None → level ≡ depth (size_in opened) → Ok tt ≡ missing_error opened index (first_missing opened index)
-all_there opened index level none end =
-    let found : first_missing opened index ≡ None = subst (λ (n : ℕ). first_below n (is_missing opened index) ≡ None) end none in
-    sym (ap (missing_error opened index) found)
+pub all_there : (areas : Areas) (classes : List Class) (index level : ℕ) → first_below level (is_missing areas classes index) ≡ None → level ≡ depth areas.geometry
+    → Ok tt ≡ missing_error areas index (first_missing areas classes index)
+all_there areas classes index level none end =
+    let found : first_missing areas classes index ≡ None = subst (λ (n : ℕ). first_below n (is_missing areas classes index) ≡ None) end none in
+    sym (ap (missing_error areas index) found)

@@ -1,4 +1,4 @@
--- A new backing file, none of whose blocks has come.
+-- A new backing file, none of whose blocks has come. A signed one:
 --
 --     at              what
 --     0               header, with the first record at 56
@@ -10,10 +10,17 @@
 --     tree_place      hash tree: 4096 zeros for each hash block
 --
 -- The tree begins at the first multiple of 4096 at or behind the map's end, with zeros before it. Where there is no hash block, the file
--- ends with the map, and the tree is said to be at 0.
-use Rattle.std.specs.Prelude.{◌≡◌, ◌==◌, ℕ, ◌+◌, ◌-◌, ◌*◌, ◌/◌, ◌^◌, ◌<◌, ◌≤◌, if◌then◌else◌, List, ◌∷◌, ◌++◌, length, replicate, None, Result, Ok, Err, IsOk, slice_index_or}
+-- ends with the map, and the tree is said to be at 0. An unsigned file has neither signature record nor blob nor tree:
+--
+--     at              what
+--     0               header, with the first record at 56
+--     56              block map record, with the next record at 91
+--     91              status record, the last one, with all counts 0
+--     146             block map: ten zeros for each data block
+use Rattle.std.specs.Prelude.{◌≡◌, ◌==◌, ℕ, ◌+◌, ◌-◌, ◌*◌, ◌/◌, ◌<◌, ◌≤◌, if◌then◌else◌, List, ◌∷◌, ◌++◌, length, replicate, Option, Some, None, Result, Ok, Err, IsOk, slice_index_or}
 use Rattle.inc_bytes.specs.Fields.{le_bytes}
-use Rattle.inc_tree.specs.Geometry.{data_blocks, hash_blocks}
+use Rattle.inc_tree.specs.Geometry.{Shape, blocks_of, data_blocks, hash_blocks}
+use Rattle.inc_tree.specs.Limits.{most_size}
 use Rattle.inc_header.specs.Header.{header_bytes}
 use Rattle.inc_header.specs.declared.header.Header.{Header}
 use Rattle.inc_header.specs.declared.header.HeaderKind.TheVariants.{Plain}
@@ -23,37 +30,80 @@ use Rattle.inc_signature.specs.declared.signature.SigFault.{SigFault}
 use Rattle.inc_signature.specs.declared.signature.SigFault.TheVariants as signature_faults
 use Rattle.inc_entry.specs.declared.classes.Class.TheVariants.{Closed, Damaged}
 use Rattle.inc_layout.specs.Backing.{IsBackingFile}
+use Rattle.inc_entry.specs.Entry.{block_bytes, entry_bytes}
+use Rattle.inc_layout.specs.Fixed.{shape_for}
 use Rattle.inc_layout.specs.declared.fresh.FreshFault.{FreshFault}
+use Rattle.inc_layout.specs.declared.fresh.FreshImage.{FreshImage}
 use Rattle.inc_layout.specs.declared.fresh.FreshFault.TheVariants as fault
 use Rattle.inc_layout.specs.declared.opened.Opened.{Opened}
 
--- ---- places, for a content of `size` bytes and a blob of `blob_size` bytes
+-- ---- places, for a content of this shape and a blob of `blob_size` bytes
 
-abbrev pub entry_count : ℕ → ℕ
-entry_count size = data_blocks size + hash_blocks size
+-- the types and sizes of the records
+abbrev pub map_kind : ℕ
+map_kind = 1
+
+abbrev pub map_record_size : ℕ
+map_record_size = 35
+
+abbrev pub signature_kind : ℕ
+signature_kind = 3
+
+abbrev pub signature_record_size : ℕ
+signature_record_size = 47
+
+abbrev pub status_kind : ℕ
+status_kind = 4
+
+abbrev pub status_record_size : ℕ
+status_record_size = 55
+
+-- where they stand, and what comes behind them
+abbrev pub map_record_place : ℕ
+map_record_place = 56
+
+abbrev pub second_record_place : ℕ
+second_record_place = 91
+
+abbrev pub third_record_place : ℕ
+third_record_place = 138
+
+abbrev pub blob_place : ℕ
+blob_place = 193
+
+abbrev pub unsigned_map_place : ℕ
+unsigned_map_place = 146
+
+-- the entries of a map
+abbrev pub entry_count : Shape → ℕ
+entry_count shape = data_blocks shape + hash_blocks shape
 
 abbrev pub map_place : ℕ → ℕ
-map_place blob_size = 193 + blob_size
+map_place blob_size = blob_place + blob_size
 
-abbrev pub map_end : ℕ → ℕ → ℕ
-map_end size blob_size = map_place blob_size + 10 * entry_count size
+abbrev pub map_end : Shape → ℕ → ℕ
+map_end shape blob_size = map_place blob_size + entry_bytes * entry_count shape
 
 -- the next multiple of 4096
 abbrev pub block_start : ℕ → ℕ
 block_start at = 4096 * ((at + 4095) / 4096)
 
-unfoldable pub tree_place : ℕ → ℕ → ℕ
-tree_place size blob_size = if hash_blocks size == 0 then 0 else block_start (map_end size blob_size)
+unfoldable pub tree_place : Shape → ℕ → ℕ
+tree_place shape blob_size = if hash_blocks shape == 0 then 0 else block_start (map_end shape blob_size)
 
-abbrev pub tree_bytes : ℕ → ℕ
-tree_bytes size = 4096 * hash_blocks size
+abbrev pub tree_bytes : Shape → ℕ
+tree_bytes shape = block_bytes * hash_blocks shape
 
 -- the zeros between map and tree
-unfoldable pub gap : ℕ → ℕ → ℕ
-gap size blob_size = if hash_blocks size == 0 then 0 else tree_place size blob_size - map_end size blob_size
+unfoldable pub gap : Shape → ℕ → ℕ
+gap shape blob_size = if hash_blocks shape == 0 then 0 else tree_place shape blob_size - map_end shape blob_size
 
-unfoldable pub fresh_length : ℕ → ℕ → ℕ
-fresh_length size blob_size = if hash_blocks size == 0 then map_end size blob_size else tree_place size blob_size + tree_bytes size
+unfoldable pub fresh_length : Shape → ℕ → ℕ
+fresh_length shape blob_size = if hash_blocks shape == 0 then map_end shape blob_size else tree_place shape blob_size + tree_bytes shape
+
+-- of an unsigned file
+abbrev pub unsigned_length : ℕ → ℕ
+unsigned_length size = unsigned_map_place + entry_bytes * blocks_of size
 
 -- ---- pieces
 
@@ -65,48 +115,68 @@ abbrev pub record_head : ℕ → ℕ → ℕ → List ℕ
 record_head kind size next = kind ∷ le_bytes 2 size ++ le_bytes 4 0 ++ le_bytes 8 next ++ le_bytes 8 0
 
 unfoldable pub map_record : ℕ → ℕ → List ℕ
-map_record base count = record_head 1 35 91 ++ le_bytes 8 base ++ le_bytes 4 count
+map_record base count = record_head map_kind map_record_size second_record_place ++ le_bytes 8 base ++ le_bytes 4 count
 
 unfoldable pub signature_record : ℕ → ℕ → ℕ → List ℕ
 signature_record blob_size tree_size tree_at =
-    record_head 3 47 138 ++ le_bytes 4 blob_size ++ le_bytes 8 193 ++ le_bytes 4 tree_size ++ le_bytes 8 tree_at
+    record_head signature_kind signature_record_size third_record_place ++ le_bytes 4 blob_size ++ le_bytes 8 blob_place ++ le_bytes 4 tree_size ++ le_bytes 8 tree_at
 
 unfoldable pub status_record : List ℕ
-status_record = record_head 4 55 0 ++ zeros 32
+status_record = record_head status_kind status_record_size 0 ++ zeros 32
 
 abbrev pub fresh_header : ℕ → List ℕ → Header
-fresh_header size id = record { kind = Plain 56; size = size; id = id }
+fresh_header size id = record { kind = Plain map_record_place; size = size; id = id }
 
 -- ---- the whole file
 
-unfoldable pub fresh_of : (size : ℕ) (id blob : List ℕ) → List ℕ
-fresh_of size id blob =
-    header_bytes (fresh_header size id)
-    ++ map_record (map_place (length blob)) (entry_count size)
-    ++ signature_record (length blob) (tree_bytes size) (tree_place size (length blob))
+unfoldable pub fresh_of : (shape : Shape) (id blob : List ℕ) → List ℕ
+fresh_of shape id blob =
+    header_bytes (fresh_header shape.size id)
+    ++ map_record (map_place (length blob)) (entry_count shape)
+    ++ signature_record (length blob) (tree_bytes shape) (tree_place shape (length blob))
     ++ status_record
     ++ blob
-    ++ zeros (10 * entry_count size)
-    ++ zeros (gap size (length blob))
-    ++ zeros (tree_bytes size)
+    ++ zeros (entry_bytes * entry_count shape)
+    ++ zeros (gap shape (length blob))
+    ++ zeros (tree_bytes shape)
 
--- In words it is a backing file with this header and this blob, none of whose blocks is stored.
-pub record IsFresh (size : ℕ) (id blob bytes : List ℕ) : Type 0 where
+unfoldable pub unsigned_of : (size : ℕ) (id : List ℕ) → List ℕ
+unsigned_of size id =
+    header_bytes (fresh_header size id)
+    ++ map_record unsigned_map_place (blocks_of size)
+    ++ status_record
+    ++ zeros (entry_bytes * blocks_of size)
+
+-- the bytes of a file that is described by its front: zeros stand behind that
+abbrev pub image_of : FreshImage → List ℕ
+image_of image = image.front ++ zeros (image.len - length image.front)
+
+-- ---- in words
+
+-- the signature is that of the blob, where there is one
+abbrev pub IsSigOf : Option (List ℕ) → Option SigInfo → Type 0
+IsSigOf None None = Unit {0}
+IsSigOf (Some blob) (Some sig) = signature_of blob ≡ Ok sig
+IsSigOf None (Some sig) = ⊥
+IsSigOf (Some blob) None = ⊥
+
+-- It is a backing file with this header and this blob or none, none of whose blocks is stored.
+pub record IsFreshFile (size : ℕ) (id : List ℕ) (blob : Option (List ℕ)) (bytes : List ℕ) : Type 0 where
   pub opened : Opened
   pub stands : IsBackingFile bytes opened
   pub header : opened.header ≡ fresh_header size id
-  pub sig : signature_of blob ≡ Ok opened.sig
-  pub all_closed : (i : ℕ) → i < entry_count size → slice_index_or opened.classes i Damaged ≡ Closed
-  pub none_stored : (i : ℕ) → i < entry_count size → slice_index_or opened.digests i None ≡ None
+  pub sig : IsSigOf blob opened.sig
+  pub all_closed : (i : ℕ) → i < entry_count (shape_for blob size) → slice_index_or opened.classes i Damaged ≡ Closed
+  pub none_stored : (i : ℕ) → i < entry_count (shape_for blob size) → slice_index_or opened.digests i None ≡ None
 
 -- of some content
-pub record IsFreshImage (image : List ℕ) : Type 0 where
+pub record IsFreshImage (bytes : List ℕ) : Type 0 where
   pub size : ℕ
   pub id : List ℕ
-  pub blob : List ℕ
-  pub fresh : IsFresh size id blob image
+  pub blob : Option (List ℕ)
+  pub fresh : IsFreshFile size id blob bytes
 
--- ---- what the call answers
+-- ---- what a call answers
 
 -- an inner want of memory is one of the whole
 abbrev pub fresh_fault : SigFault → FreshFault
@@ -118,8 +188,13 @@ abbrev pub GivesSignature : {T : Type 0} → Result T FreshFault → Result SigI
 GivesSignature (Err (fault.Signature refused)) judged = judged ≡ Err refused
 GivesSignature result judged = IsOk judged
 
+-- and none where there is no blob
+abbrev pub HasNoBlob : {T : Type 0} → Result T FreshFault → Type 0
+HasNoBlob (Err (fault.Signature refused)) = ⊥
+HasNoBlob result = Unit {0}
+
 -- too large exactly where the size is over the limit, for a good signature
 abbrev pub GivesSize : {T : Type 0} → Result T FreshFault → ℕ → Type 0
-GivesSize (Ok image) size = size ≤ 2 ^ 30
-GivesSize (Err fault.TooLarge) size = 2 ^ 30 < size
+GivesSize (Ok image) size = size ≤ most_size
+GivesSize (Err fault.TooLarge) size = most_size < size
 GivesSize (Err refused) size = Unit {0}

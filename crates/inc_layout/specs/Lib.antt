@@ -2,12 +2,13 @@ pub mod Backing
 pub mod Checking
 pub mod Faults
 pub mod Fixed
+pub mod Found
 pub mod Fresh
-pub mod Keeps
 pub mod Listed
 pub mod Opening
-pub mod Parts
 pub mod Preserves
+pub mod Reopening
 pub mod SameFixed
+pub mod State
 pub mod StaticRead
 pub mod Told

@@ -1,18 +1,25 @@
--- What the calls that read the entries answer, by their results.
-use Rattle.std.specs.Prelude.{◌≡◌, ℕ, ◌<◌, ◌≤◌, ◌+◌, ◌*◌, ◌^◌, Bool, true, false, List, length, Option, Some, None, Result, Ok, Err, is_some, slice_index_or}
+-- What the calls that open a file and read its entries answer, by their results.
+use Rattle.std.specs.Prelude.{◌≡◌, ℕ, ◌<◌, ◌≤◌, ◌+◌, ◌*◌, ◌^◌, List, length, Option, Some, None, Result, Ok, Err, is_some, slice_index_or}
 use Rattle.inc_tree.specs.Geometry.{hash_blocks}
-use Rattle.inc_entry.specs.Entry.{Places, areas_of, entries, map_span, tree_span, places_of}
-use Rattle.inc_entry.specs.declared.areas.Areas.{Areas}
+use Rattle.inc_header.specs.declared.header.HeaderKind.{HeaderKind}
+use Rattle.inc_header.specs.declared.header.HeaderKind.TheVariants as kind
+use Rattle.inc_md.specs.declared.records.Records.{Records}
+use Rattle.inc_md.specs.declared.records.StatusRecord.{StatusRecord}
+use Rattle.inc_entry.specs.Spans.{AreApart, IsInside}
+use Rattle.inc_entry.specs.Entry.{Places, area_places, areas_of, block_bytes, entries, entry_bytes, map_span, tree_span}
+use Rattle.inc_entry.specs.Stored.{class_at, is_open_class, is_past}
 use Rattle.inc_entry.specs.declared.classes.Class.{Class}
-use Rattle.inc_entry.specs.declared.classes.Class.TheVariants.{OpenAt, Damaged}
-use Rattle.inc_layout.specs.Backing.{IsBackingFile, class_at, first_past, is_past, opened_of, stored_digest}
-use Rattle.inc_layout.specs.Faults.{GivesFault}
-use Rattle.inc_layout.specs.Fixed.{AreApart, Fixed, IsFixed, IsInside}
+use Rattle.inc_entry.specs.declared.classes.Class.TheVariants.{Damaged}
+use Rattle.inc_layout.specs.Backing.{first_past, layout_in}
+use Rattle.inc_layout.specs.Fixed.{Fixed, IsFixed, most_length, shape_for}
 use Rattle.inc_layout.specs.Listed.{IsFirst, first_below, listed}
 use Rattle.inc_layout.specs.declared.fault.LayoutFault.{LayoutFault}
 use Rattle.inc_layout.specs.declared.fault.LayoutFault.TheVariants.{PlacePastEnd, ReadFault, OutOfMemory}
 use Rattle.inc_layout.specs.declared.fixed.part.FixedPart.{FixedPart}
+use Rattle.inc_layout.specs.declared.opened.Layout.{Layout}
 use Rattle.inc_layout.specs.declared.opened.Opened.{Opened}
+
+-- ---- the entries
 
 -- the first so many entries were judged: none of them names a block past the end, and these are their classes
 pub record HasClasses (places : Places) (bytes : List ℕ) (count : ℕ) (classes : List Class) : Type 0 where
@@ -26,31 +33,61 @@ IsPastFault places bytes OutOfMemory = Unit {0}
 IsPastFault places bytes (PlacePastEnd i) = first_past places bytes ≡ Some i
 IsPastFault places bytes fault = ⊥
 
-abbrev pub is_open_class : Class → Bool
-is_open_class (OpenAt place size) = true
-is_open_class class = false
+-- each class has its digest or none
+pub record AreDigests (classes : List Class) (digests : List (Option (List ℕ))) : Type 0 where
+  pub count : length digests ≡ length classes
+  pub each : (i : ℕ) → i < length classes → is_some (slice_index_or digests i None) ≡ is_open_class (slice_index_or classes i Damaged)
 
--- What is promised of each opened file, whether its bytes are told or not. An empty map or tree may stand anywhere.
-pub record IsSound (opened : Opened) : Type 0 where
-  pub size : opened.areas.geometry ≡ opened.header.size
-  pub len_is : opened.areas.len ≡ opened.len
-  pub short : opened.len ≤ 2 ^ 47
-  pub map_inside : IsInside opened.len (map_span (places_of opened.areas))
-  pub map_end : opened.areas.map_at + 10 * entries (places_of opened.areas) < 2 ^ 64
-  pub tree_inside : IsInside opened.len (tree_span (places_of opened.areas))
-  pub tree_end : opened.areas.hash_at + 4096 * hash_blocks opened.areas.geometry < 2 ^ 64
-  pub all_apart : AreApart (areas_of (places_of opened.areas))
-  pub class_count : length opened.classes ≡ entries (places_of opened.areas)
-  pub digest_count : length opened.digests ≡ entries (places_of opened.areas)
-  pub digests_open : (i : ℕ) → i < entries (places_of opened.areas) → is_some (slice_index_or opened.digests i None) ≡ is_open_class (slice_index_or opened.classes i Damaged)
+-- ---- what is promised of each opened file, whether its bytes are told or not
 
--- an opening answers what the definition says, or a fault of the device or of memory
-abbrev pub GivesOpened : Result Opened LayoutFault → Result Opened LayoutFault → Type 0
-GivesOpened (Ok opened) wanted = wanted ≡ Ok opened
-GivesOpened (Err fault) wanted = GivesFault fault wanted
+abbrev pub IsPlainKind : HeaderKind → Type 0
+IsPlainKind (kind.Plain first) = Unit {0}
+IsPlainKind (kind.Mapped offset) = ⊥
+
+-- the two counts of a status record end inside a file of so many bytes
+abbrev pub HasStatusInside : ℕ → Option StatusRecord → Type 0
+HasStatusInside len None = Unit {0}
+HasStatusInside len (Some status) = status.at + 8 ≤ len
+
+-- what the records name lies inside the file: the status record's counts, and the head of the last record, where there is one
+pub record AreRecordsInside (len : ℕ) (records : Records) : Type 0 where
+  pub status : HasStatusInside len records.status
+  pub last : 0 < length records.spans → records.last + 23 ≤ len
+
+-- An empty map or tree may stand anywhere.
+pub record IsSoundLayout (layout : Layout) : Type 0 where
+  pub plain : IsPlainKind layout.header.kind
+  pub shape : layout.areas.geometry ≡ shape_for layout.sig layout.header.size
+  pub signed : is_some layout.records.signature ≡ is_some layout.sig
+  pub records_inside : AreRecordsInside layout.len layout.records
+  pub len_is : layout.areas.len ≡ layout.len
+  pub short : layout.len ≤ most_length
+  pub map_inside : IsInside layout.len (map_span (area_places layout.areas))
+  pub map_end : layout.areas.map_at + entry_bytes * entries (area_places layout.areas) < 2 ^ 64
+  pub tree_inside : IsInside layout.len (tree_span (area_places layout.areas))
+  pub tree_end : layout.areas.hash_at + block_bytes * hash_blocks layout.areas.geometry < 2 ^ 64
+  pub all_apart : AreApart (areas_of (area_places layout.areas))
+  pub class_count : length layout.classes ≡ entries (area_places layout.areas)
+
+pub record IsSoundOpened (opened : Opened) : Type 0 where
+  pub layout : IsSoundLayout (layout_in opened)
+  pub digests : AreDigests opened.classes opened.digests
+
+-- ---- what an opening answers
+
+-- what an opening makes of its parts
+abbrev pub layout_with : FixedPart → List Class → Layout
+layout_with part classes = record {
+  header = part.header;
+  records = part.records;
+  sig = part.sig;
+  areas = part.areas;
+  classes = classes;
+  len = part.areas.len;
+}
 
 -- a backing file is taken, but for a fault of the device or of memory
-abbrev pub Accepts : Result Opened LayoutFault → Opened → Type 0
+abbrev pub Accepts : {T : Type 0} → Result T LayoutFault → T → Type 0
 Accepts (Ok opened) wanted = opened ≡ wanted
 Accepts (Err ReadFault) wanted = Unit {0}
 Accepts (Err OutOfMemory) wanted = Unit {0}
@@ -61,20 +98,3 @@ pub record IsLeastPast (bytes : List ℕ) (i : ℕ) : Type 0 where
   pub fixed : Fixed
   pub stands : IsFixed bytes fixed
   pub least : IsFirst (entries fixed.places) (is_past fixed.places bytes) i
-
--- each class has its digest or none
-pub record AreDigests (classes : List Class) (digests : List (Option (List ℕ))) : Type 0 where
-  pub count : length digests ≡ length classes
-  pub each : (i : ℕ) → i < length classes → is_some (slice_index_or digests i None) ≡ is_open_class (slice_index_or classes i Damaged)
-
--- what an opening makes of its parts
-abbrev pub opened_with : FixedPart → List Class → List (Option (List ℕ)) → Opened
-opened_with part classes digests = record {
-  header = part.header;
-  records = part.records;
-  sig = part.sig;
-  areas = part.areas;
-  classes = classes;
-  digests = digests;
-  len = part.areas.len;
-}

@@ -1,14 +1,9 @@
 -- The bytes that the fixed part of a file rests on: header, records and signature blob, but for the two counts of the status record. A fill
 -- writes none of them. A file that agrees with another on them and is no shorter has the same fixed part.
-use Rattle.std.specs.Prelude.{◌≡◌, ℕ, ◌≤◌, ◌^◌, Bool, true, not, ◌&&◌, List, length, slice_index}
-use Rattle.std.specs.List.{list_any}
-use Rattle.inc_bytes.specs.declared.span.Span.{Span}
-use Rattle.inc_md.specs.Staying.{in_counts, in_span, IsSameChain}
-use Rattle.inc_layout.specs.Fixed.{Fixed, IsFixed}
-
--- the byte lies in one of these spans
-abbrev pub in_spans : List Span → ℕ → Bool
-in_spans spans place = list_any (in_span place) spans
+use Rattle.std.specs.Prelude.{◌≡◌, ℕ, ◌≤◌, Bool, true, not, ◌&&◌, List, length, slice_index}
+use Rattle.inc_md.specs.Staying.{in_counts, IsSameChain}
+use Rattle.inc_entry.specs.Spans.{in_spans}
+use Rattle.inc_layout.specs.Fixed.{Fixed, IsFixed, most_length}
 
 abbrev pub is_fixed_byte : Fixed → ℕ → Bool
 is_fixed_byte fixed place = in_spans fixed.places.spans place && not (in_counts fixed.records.status place)
@@ -31,5 +26,5 @@ pub record HasSameFixed (bytes : List ℕ) (fixed : Fixed) : Type 0 where
 
 abbrev pub FixedStays : Type 0
 FixedStays =
-    (bytes other : List ℕ) (fixed : Fixed) → IsFixed bytes fixed → AgreesOnFixed fixed bytes other → length bytes ≤ length other → length other ≤ 2 ^ 47
+    (bytes other : List ℕ) (fixed : Fixed) → IsFixed bytes fixed → AgreesOnFixed fixed bytes other → length bytes ≤ length other → length other ≤ most_length
     → HasSameFixed other fixed

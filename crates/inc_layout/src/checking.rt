@@ -1,29 +1,25 @@
-ghost use Rattle.std.specs.Prelude.{◌≡◌, ◌⊎◌, ◌↔◌, ◌+◌, ◌*◌, ◌++◌, ◌∷◌, ◌<◌, ◌≤◌, ◌^◌, ℕ, List, [], true, length, slice_index_or, slice_set, None, Some, IfSome, IfErr, IsTrue, MatchResult, OnOk, OnErr};
+ghost use Rattle.std.specs.Prelude.{◌≡◌, ◌⊎◌, ◌↔◌, ◌+◌, ◌*◌, ◌++◌, ◌∷◌, ◌<◌, ◌≤◌, ◌^◌, ℕ, List, [], true, length, slice_index_or, slice_set, None, Some, IfSome, IfErr, IsSome, IsTrue, MatchResult, OnOk, OnErr};
 ghost use Rattle.inc_io.specs.Causes.{HasCauseAt};
 ghost use Rattle.inc_tree.specs.Geometry.{data_blocks, depth, hash_blocks, path_block};
 ghost use Rattle.inc_tree.specs.Path.{NamesBreak, first_break, slot_of};
-ghost use Rattle.inc_entry.specs.Entry.{entries, places_of};
-ghost use Rattle.inc_layout.specs.Backing.{IsBackingFile};
-ghost use Rattle.inc_layout.specs.Checking.{AreKept, GivesCheck, HasTree, IsKeptAt, IsKeptBelow, KnowsPath};
-ghost use Rattle.inc_layout.specs.Opening.{IsSound, is_open_class};
+ghost use Rattle.inc_entry.specs.Entry.{area_places, block_bytes, entries};
+ghost use Rattle.inc_entry.specs.Stored.{is_open_class};
+ghost use Rattle.inc_layout.specs.Backing.{IsBackingFile, layout_in};
+ghost use Rattle.inc_layout.specs.Checking.{AreKept, GivesCheck, HasTreeInside, IsKeptAt, IsKeptBelow, KnowsPath};
+ghost use Rattle.inc_layout.specs.Opening.{IsSoundOpened};
 ghost use Rattle.inc_layout.specs.StaticRead.{class_in, first_missing, static_reading};
 ghost use Rattle.inc_layout.specs.declared.checking.KeptBlock.{KeptBlock};
-ghost use Rattle.inc_layout.specs.declared.static_error.StaticError.TheVariants.{OutOfMemory as out_of_memory, ReadFault as read_fault};
+ghost use Rattle.inc_layout.specs.declared.static_error.StaticError.TheVariants.{ReadFault as read_fault};
+ghost use Rattle.inc_layout.specs.declared.stored_error.StoredError.TheVariants.{OutOfMemory as out_of_memory, ReadFault as stored_fault};
 
-use crate::static_read::{block_place, check_path_there, read_block};
-use crate::{Opened, StaticError};
-use inc_bytes::Digest32;
+use crate::block::read_stored;
+use crate::static_read::{block_place, check_path_there, root_of};
+use crate::{Opened, StaticError, StoredError};
 use inc_entry::Areas;
 use inc_io::Backing;
-use inc_tree::{BLOCK_SIZE, Block, Broken};
+use inc_tree::{BLOCK_SIZE, Block, Broken, Digest32, slot_digest};
 use std::alloc::Global;
 use std::marker::Model;
-
-/// The digests that a hash block holds.
-const DIGESTS: u32 = 128;
-
-/// The bytes of a digest.
-const DIGEST_SIZE: usize = 32;
 
 /// A hash block that was read, and its number.
 #[derive(Drop)]
@@ -65,7 +61,7 @@ impl KeptPath {
     }
 
     /// Keeps a hash block at this level, in place of the one that was kept there.
-    fn keep(&mut self, level: usize, kept: KeptBlock) -> Result<(), StaticError>
+    fn keep(&mut self, level: usize, kept: KeptBlock) -> Result<(), StoredError>
         requires { level ≤ length self.old }
         ensures over { level < length self.old → OnOk result (self.new ≡ slice_set self.old level kept) }
         ensures more { level ≡ length self.old → OnOk result (self.new ≡ self.old ++ kept ∷ []) }
@@ -86,10 +82,7 @@ impl KeptPath {
         requires slot { slot < 128 }
         ensures value { (other : KeptBlock) → result ≡ slot_of (slice_index_or self.now level other).block slot }
     {
-        let at = slot as usize * DIGEST_SIZE;
-        let mut digest = [0; DIGEST_SIZE];
-        digest.copy_from_slice(&self.blocks[level].block.as_slice()[at..at + DIGEST_SIZE]);
-        digest
+        slot_digest(&self.blocks[level].block, slot)
     }
 }
 
@@ -102,18 +95,21 @@ pub fn check_opened<B: Backing>(
     path: &mut KeptPath,
     index: u32,
 ) -> Result<(), StaticError>
-    requires sound { IsSound opened.now }
+    requires sound { IsSoundOpened opened.now }
+    requires signed { IsSome opened.now.sig }
     requires stands { IfSome (B.reads (B.kept file.old)) (λ bytes. IsBackingFile bytes opened.now) }
     requires before { IfSome (B.reads (B.kept file.old)) (λ bytes. AreKept bytes opened.now.areas path.old) }
-    ensures answer { IfSome (B.reads (B.kept file.old)) (λ bytes. GivesCheck result (static_reading bytes opened.now index)) }
+    ensures answer { IfSome (B.reads (B.kept file.old)) (λ bytes. GivesCheck result (static_reading bytes (layout_in opened.now) index)) }
     ensures after { IfSome (B.reads (B.kept file.old)) (λ bytes. AreKept bytes opened.now.areas path.new) }
     ensures kept { B.kept file.new ≡ B.kept file.old }
     ensures cause { HasCauseAt read_fault (B.faults file.old) (B.faults file.new) result }
 {
-    block_place(opened, index)?;
-    check_path_there(opened, index)?;
+    let root = root_of(&opened.sig);
+    let classes = opened.classes.as_slice();
+    block_place(&opened.areas, classes, index)?;
+    check_path_there(&opened.areas, classes, index)?;
     keep_path(alloc, file, &opened.areas, path, index)?;
-    Ok(compare_digests(opened, path, index)?)
+    Ok(compare_digests(&root, opened, path, index)?)
 }
 
 /// Reads the hash blocks on the path of a data block that aren't kept yet.
@@ -123,16 +119,15 @@ fn keep_path<B: Backing>(
     areas: &Areas,
     path: &mut KeptPath,
     index: u32,
-) -> Result<(), StaticError>
+) -> Result<(), StoredError>
     requires here { index < data_blocks areas.now.geometry }
-    requires end { areas.now.hash_at + 4096 * hash_blocks areas.now.geometry < 2 ^ 64 }
-    requires tree { IfSome (B.reads (B.kept file.old)) (λ bytes. HasTree bytes areas.now) }
+    requires end { areas.now.hash_at + block_bytes * hash_blocks areas.now.geometry < 2 ^ 64 }
+    requires tree { IfSome (B.reads (B.kept file.old)) (λ bytes. HasTreeInside bytes areas.now) }
     requires before { IfSome (B.reads (B.kept file.old)) (λ bytes. AreKept bytes areas.now path.old) }
     ensures on { OnOk result (IsKeptBelow path.new areas.now.geometry index (depth areas.now.geometry)) }
     ensures after { IfSome (B.reads (B.kept file.old)) (λ bytes. AreKept bytes areas.now path.new) }
-    ensures failed { IfErr result (λ error. (error ≡ read_fault) ⊎ (error ≡ out_of_memory)) }
     ensures kept { B.kept file.new ≡ B.kept file.old }
-    ensures cause { HasCauseAt read_fault (B.faults file.old) (B.faults file.new) result }
+    ensures cause { HasCauseAt stored_fault (B.faults file.old) (B.faults file.new) result }
 {
     for level in 0..areas.geometry.depth() {
         let hash = areas.geometry.path_block(index, level);
@@ -149,24 +144,22 @@ fn keep_level<B: Backing>(
     path: &mut KeptPath,
     level: usize,
     hash: u32,
-) -> Result<(), StaticError>
+) -> Result<(), StoredError>
     requires here { hash < hash_blocks areas.now.geometry }
-    requires end { areas.now.hash_at + 4096 * hash_blocks areas.now.geometry < 2 ^ 64 }
+    requires end { areas.now.hash_at + block_bytes * hash_blocks areas.now.geometry < 2 ^ 64 }
     requires room { level ≤ length path.old }
-    requires tree { IfSome (B.reads (B.kept file.old)) (λ bytes. HasTree bytes areas.now) }
+    requires tree { IfSome (B.reads (B.kept file.old)) (λ bytes. HasTreeInside bytes areas.now) }
     requires before { IfSome (B.reads (B.kept file.old)) (λ bytes. AreKept bytes areas.now path.old) }
     ensures on { OnOk result (IsKeptAt path.new level hash) }
     ensures lower { (lower number : ℕ) → lower < level → IsKeptAt path.old lower number → IsKeptAt path.new lower number }
     ensures after { IfSome (B.reads (B.kept file.old)) (λ bytes. AreKept bytes areas.now path.new) }
-    ensures failed { IfErr result (λ error. (error ≡ read_fault) ⊎ (error ≡ out_of_memory)) }
     ensures kept { B.kept file.new ≡ B.kept file.old }
-    ensures cause { HasCauseAt read_fault (B.faults file.old) (B.faults file.new) result }
+    ensures cause { HasCauseAt stored_fault (B.faults file.old) (B.faults file.new) result }
 {
     if path.has(level, hash) {
         return Ok(());
     }
-    let place = areas.hash_at + BLOCK_SIZE as u64 * hash as u64;
-    let block = read_block(alloc, file, place, BLOCK_SIZE as u32)?;
+    let block = read_stored(alloc, file, areas.hash_block_at(hash), BLOCK_SIZE as u32)?;
     path.keep(
         level,
         KeptBlock {
@@ -177,33 +170,36 @@ fn keep_level<B: Backing>(
 }
 
 /// Compares the digests of a data block and of the hash blocks on its path, leaf level first, with those that stand above them.
-fn compare_digests(opened: &Opened, path: &KeptPath, index: u32) -> Result<(), Broken>
-    requires sound { IsSound opened.now }
+fn compare_digests(
+    root: &Digest32,
+    opened: &Opened,
+    path: &KeptPath,
+    index: u32,
+) -> Result<(), Broken>
+    requires sound { IsSoundOpened opened.now }
     requires here { index < data_blocks opened.now.areas.geometry }
-    requires there { is_open_class (class_in opened.now index) ≡ true }
-    requires arrived { first_missing opened.now index ≡ None }
+    requires there { is_open_class (class_in opened.now.classes index) ≡ true }
+    requires arrived { first_missing opened.now.areas opened.now.classes index ≡ None }
     requires on { IsKeptBelow path.now opened.now.areas.geometry index (depth opened.now.areas.geometry) }
     // Of each content and path that have these digests:
     ensures answer { (content : List ℕ) (hashes : List (List ℕ)) → KnowsPath opened.now path.now index content hashes →
         MatchResult result
-        (λ _. first_break opened.now.sig.root index content hashes ≡ None)
-        (λ broken. NamesBreak opened.now.sig.root index content hashes broken.level broken.wanted broken.got) }
+        (λ _. first_break root.now index content hashes ≡ None)
+        (λ broken. NamesBreak root.now index content hashes broken.level broken.wanted broken.got) }
 {
     let tree = &opened.areas.geometry;
     let mut got = digest_there(opened, index);
-    let mut place = index;
     for level in 0..tree.depth() {
-        let wanted = path.digest(level as usize, place % DIGESTS);
+        let wanted = path.digest(level as usize, tree.path_slot(index, level));
         if got != wanted {
             return Err(Broken { level, wanted, got });
         }
         got = hash_digest(opened, tree.path_block(index, level));
-        place /= DIGESTS;
     }
-    if got != opened.sig.root {
+    if got != *root {
         return Err(Broken {
             level: tree.depth(),
-            wanted: opened.sig.root,
+            wanted: *root,
             got,
         });
     }
@@ -212,9 +208,9 @@ fn compare_digests(opened: &Opened, path: &KeptPath, index: u32) -> Result<(), B
 
 /// The digest of a hash block that has arrived.
 fn hash_digest(opened: &Opened, hash: u32) -> Digest32
-    requires sound { IsSound opened.now }
+    requires sound { IsSoundOpened opened.now }
     requires here { hash < hash_blocks opened.now.areas.geometry }
-    requires there { is_open_class (class_in opened.now (data_blocks opened.now.areas.geometry + hash)) ≡ true }
+    requires there { is_open_class (class_in opened.now.classes (data_blocks opened.now.areas.geometry + hash)) ≡ true }
     ensures value { slice_index_or opened.now.digests (data_blocks opened.now.areas.geometry + hash) None ≡ Some result }
 {
     prove!(hash < opened.areas.geometry.hash_blocks());
@@ -223,9 +219,9 @@ fn hash_digest(opened: &Opened, hash: u32) -> Digest32
 
 /// The digest of an open block.
 fn digest_there(opened: &Opened, entry: u32) -> Digest32
-    requires sound { IsSound opened.now }
-    requires here { entry < entries (places_of opened.now.areas) }
-    requires there { is_open_class (class_in opened.now entry) ≡ true }
+    requires sound { IsSoundOpened opened.now }
+    requires here { entry < entries (area_places opened.now.areas) }
+    requires there { is_open_class (class_in opened.now.classes entry) ≡ true }
     ensures value { slice_index_or opened.now.digests entry None ≡ Some result }
 {
     opened.digests.as_slice()[entry as usize].unwrap()

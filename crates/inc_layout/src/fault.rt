@@ -16,11 +16,9 @@ pub enum LayoutFault {
     Header(HeaderFault),
     /// The file has no blocks of its own: it shows a part of another one.
     Mapped,
-    /// The content would have over 2^30 bytes.
+    /// The content would have over 2^34 bytes.
     TooLarge,
     Chain(ChainFault),
-    /// There is no signature record.
-    Unsigned,
     /// The signature blob isn't inside the file.
     SignatureOutside,
     Signature(SigFault),

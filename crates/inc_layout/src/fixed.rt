@@ -1,15 +1,16 @@
-ghost use Rattle.std.specs.Prelude.{◌≡◌, ◌≤◌, ◌^◌, length, take, IfOk, IfSome, Ok, Err, Some};
+ghost use Rattle.std.specs.Prelude.{◌≡◌, ◌≤◌, ◌^◌, length, is_some, IfOk, IfSome, Ok};
 ghost use Rattle.inc_io.specs.Causes.{HasCauseAt};
-ghost use Rattle.inc_md.specs.Chain.{chain_of};
 ghost use Rattle.inc_signature.specs.Signature.{signature_of};
-ghost use Rattle.inc_layout.specs.Fixed.{blob_in, blob_span, fixed_of, needs_map, plain_of, with_blob, with_chain, with_header, with_signature, IsInside};
-ghost use Rattle.inc_layout.specs.Parts.{part};
+ghost use Rattle.inc_layout.specs.Faults.{GivesOpening};
+ghost use Rattle.inc_layout.specs.Fixed.{IsHeaderOf, blob_in, blob_span, fixed_of, sig_in, with_chain, with_plain};
+ghost use Rattle.inc_entry.specs.Spans.{IsInside};
+ghost use Rattle.inc_layout.specs.Opening.{AreRecordsInside};
 ghost use Rattle.inc_layout.specs.Told.{GivesBlob, GivesFixed, GivesFront, IsPlaced};
 ghost use Rattle.inc_layout.specs.declared.fault.LayoutFault.TheVariants.{ReadFault as read_fault};
 
 use crate::LayoutFault;
 use crate::room::fill;
-use inc_header::HEADER_LEN;
+use inc_header::{HEADER_LEN, read_header};
 use inc_io::Backing;
 use inc_md::{Records, SigRecord, walk};
 use inc_signature::{SigInfo, parse};
@@ -18,10 +19,12 @@ use std::alloc::Global;
 mod judging;
 mod part;
 mod places;
+mod plain;
 
-use judging::{check_blob, plain_front};
+use judging::{check_blob, check_inside, plain_front};
 pub use part::{FixedPart, Front};
 use places::with_areas;
+use plain::PlainFront;
 
 /// The most bytes of a backing file.
 const MOST_LENGTH: u64 = 1 << 47;
@@ -34,64 +37,87 @@ pub fn open_fixed<B: Backing>(alloc: Global, file: &mut B) -> Result<FixedPart, 
     ensures kept { B.kept file.new ≡ B.kept file.old }
     ensures cause { HasCauseAt read_fault (B.faults file.old) (B.faults file.new) result }
 {
+    let front = read_front(file)?;
+    let plain = plain_front(front)?;
+    open_chain(alloc, file, plain)
+}
+
+/// Reads a file's length and header, which may be that of a mapped file, and nothing else.
+pub fn read_front<B: Backing>(file: &mut B) -> Result<Front, LayoutFault>
+    // The answer is computed so.
+    ensures answer { IfSome (B.reads (B.kept file.old)) (λ bytes. GivesFront bytes result) }
+    // In words it is what the first bytes spell.
+    ensures stands { IfSome (B.reads (B.kept file.old)) (λ bytes. IfOk result (λ front. IsHeaderOf bytes front.header)) }
+    ensures short { IfOk result (λ front. front.len ≤ 2 ^ 47) }
+    ensures kept { B.kept file.new ≡ B.kept file.old }
+    ensures cause { HasCauseAt read_fault (B.faults file.old) (B.faults file.new) result }
+{
     let len = file.len()?;
     if len > MOST_LENGTH {
         return Err(LayoutFault::TooLong);
     }
-    let front = read_front(file)?;
-    open_chain(alloc, file, len, front)
-}
-
-fn read_front<B: Backing>(file: &mut B) -> Result<Front, LayoutFault>
-    ensures answer { IfSome (B.reads (B.kept file.old)) (λ bytes. GivesFront result (plain_of (take 56 bytes))) }
-    ensures kept { B.kept file.new ≡ B.kept file.old }
-    ensures cause { HasCauseAt read_fault (B.faults file.old) (B.faults file.new) result }
-{
     let mut room = [0; HEADER_LEN];
     let count = file.read_at(0, &mut room)?;
-    plain_front(&room[..count])
+    let header = read_header(&room[..count])?;
+    Ok(Front { header, len })
 }
 
 /// What comes after the header.
 fn open_chain<B: Backing>(
     alloc: Global,
     file: &mut B,
-    len: u64,
-    front: Front,
+    plain: PlainFront,
 ) -> Result<FixedPart, LayoutFault>
-    requires { IfSome (B.reads (B.kept file.old)) (λ bytes. len ≡ length bytes) }
-    ensures answer { IfSome (B.reads (B.kept file.old)) (λ bytes. GivesFixed len result (with_header bytes (Ok front.header))) }
+    requires { IfSome (B.reads (B.kept file.old)) (λ bytes. plain.len ≡ length bytes) }
+    ensures answer { IfSome (B.reads (B.kept file.old)) (λ bytes. GivesFixed plain.len result (with_plain bytes (Ok plain.header))) }
     ensures placed { IfOk result (λ part. IsPlaced part) }
-    ensures len { IfOk result (λ part. part.areas.len ≡ len) }
+    ensures len { IfOk result (λ part. part.areas.len ≡ plain.len) }
     ensures kept { B.kept file.new ≡ B.kept file.old }
     ensures cause { HasCauseAt read_fault (B.faults file.old) (B.faults file.new) result }
 {
-    let needs_map = front.tree.data_blocks() > 0;
-    let records = walk(alloc, file, len, front.first, needs_map)?;
-    open_signature(alloc, file, len, front, records)
+    let needs_map = plain.flat.data_blocks() > 0;
+    let records = walk(alloc, file, plain.len, plain.first, needs_map)?;
+    check_inside(&records, plain.len)?;
+    open_signature(alloc, file, plain, records)
 }
 
 /// What comes after the chain.
 fn open_signature<B: Backing>(
     alloc: Global,
     file: &mut B,
-    len: u64,
-    front: Front,
+    plain: PlainFront,
     records: Records,
 ) -> Result<FixedPart, LayoutFault>
-    requires { IfSome (B.reads (B.kept file.old)) (λ bytes. len ≡ length bytes) }
-    ensures answer { IfSome (B.reads (B.kept file.old)) (λ bytes. GivesFixed len result (with_signature bytes front.header records records.signature)) }
+    requires len { IfSome (B.reads (B.kept file.old)) (λ bytes. plain.len ≡ length bytes) }
+    requires inside { AreRecordsInside plain.len records }
+    ensures answer { IfSome (B.reads (B.kept file.old)) (λ bytes. GivesFixed plain.len result (with_chain bytes plain.header (Ok records))) }
     ensures placed { IfOk result (λ part. IsPlaced part) }
-    ensures len { IfOk result (λ part. part.areas.len ≡ len) }
+    ensures len { IfOk result (λ part. part.areas.len ≡ plain.len) }
     ensures kept { B.kept file.new ≡ B.kept file.old }
     ensures cause { HasCauseAt read_fault (B.faults file.old) (B.faults file.new) result }
 {
-    let Some(signature) = records.signature else {
-        return Err(LayoutFault::Unsigned);
+    let sig = read_sig(alloc, file, plain.len, records.signature)?;
+    with_areas(alloc, plain, records, sig)
+}
+
+/// The signature of a signed file.
+fn read_sig<B: Backing>(
+    alloc: Global,
+    file: &mut B,
+    len: u64,
+    signature: Option<SigRecord>,
+) -> Result<Option<SigInfo>, LayoutFault>
+    requires { IfSome (B.reads (B.kept file.old)) (λ bytes. len ≡ length bytes) }
+    ensures answer { IfSome (B.reads (B.kept file.old)) (λ bytes. GivesOpening result (sig_in bytes signature)) }
+    ensures signed { IfOk result (λ sig. is_some signature ≡ is_some sig) }
+    ensures kept { B.kept file.new ≡ B.kept file.old }
+    ensures cause { HasCauseAt read_fault (B.faults file.old) (B.faults file.new) result }
+{
+    let Some(signature) = signature else {
+        return Ok(None);
     };
     check_blob(&signature, len)?;
-    let sig = read_blob(alloc, file, &signature)?;
-    with_areas(alloc, len, front, records, &signature, sig)
+    Ok(Some(read_blob(alloc, file, &signature)?))
 }
 
 fn read_blob<B: Backing>(

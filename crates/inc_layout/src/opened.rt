@@ -1,10 +1,11 @@
 ghost use Rattle.std.specs.Prelude.{◌≡◌};
+ghost use Rattle.inc_layout.specs.Backing.{sig_root};
 
-use inc_bytes::Digest32;
 use inc_entry::{Areas, Class};
 use inc_header::Header;
 use inc_md::Records;
 use inc_signature::SigInfo;
+use inc_tree::Digest32;
 use std::marker::Model;
 
 /// The classes of a file's entries, first those of its data blocks.
@@ -66,12 +67,28 @@ impl DigestList {
     }
 }
 
-/// A backing file that was opened: what its bytes tell.
+/// A backing file whose entries were judged and whose blocks weren't read: where everything lies, and which blocks are there.
+#[derive(Drop)]
+pub struct Layout {
+    pub header: Header,
+    pub records: Records,
+    /// There where the file is signed.
+    pub sig: Option<SigInfo>,
+    /// Where everything lies.
+    pub areas: Areas,
+    /// The class of each entry of the block map.
+    pub classes: ClassList,
+    /// The file's length in bytes.
+    pub len: u64,
+}
+
+/// A backing file that was opened: all that its bytes tell.
 #[derive(Drop)]
 pub struct Opened {
     pub header: Header,
     pub records: Records,
-    pub sig: SigInfo,
+    /// There where the file is signed.
+    pub sig: Option<SigInfo>,
     /// Where everything lies.
     pub areas: Areas,
     /// The class of each entry of the block map.
@@ -80,4 +97,32 @@ pub struct Opened {
     pub digests: DigestList,
     /// The file's length in bytes.
     pub len: u64,
+}
+
+impl Layout {
+    /// The root that proves the file's blocks, where it is signed.
+    pub fn root(&self) -> Option<Digest32>
+        ensures value { result ≡ sig_root self.now.sig }
+    {
+        sig_root(&self.sig)
+    }
+}
+
+impl Opened {
+    /// The root that proves the file's blocks, where it is signed.
+    pub fn root(&self) -> Option<Digest32>
+        ensures value { result ≡ sig_root self.now.sig }
+    {
+        sig_root(&self.sig)
+    }
+}
+
+/// The root of a signature, where there is one.
+pub fn sig_root(sig: &Option<SigInfo>) -> Option<Digest32>
+    ensures value { result ≡ sig_root sig.now }
+{
+    match sig {
+        Some(sig) => Some(sig.root),
+        None => None,
+    }
 }

@@ -1,27 +1,51 @@
-ghost use Rattle.std.specs.Prelude.{◌≡◌, ◌<◌, ℕ, false, length, IfOk, IfErr, IfSome, Err};
+ghost use Rattle.std.specs.Prelude.{◌≡◌, ◌⊎◌, ◌<◌, ℕ, false, length, IfOk, IfErr, IfSome, Err};
 ghost use Rattle.inc_io.specs.Causes.{HasCauseAt};
-ghost use Rattle.inc_entry.specs.Entry.{areas_of, entries, places_of};
-ghost use Rattle.inc_layout.specs.Backing.{IsBackingFile, is_past, opened_of};
-ghost use Rattle.inc_layout.specs.Fixed.{AreApart};
-ghost use Rattle.inc_layout.specs.Opening.{Accepts, GivesOpened, IsLeastPast, IsSound, opened_with};
-ghost use Rattle.inc_layout.specs.declared.fault.LayoutFault.TheVariants.{ReadFault as read_fault};
+ghost use Rattle.inc_entry.specs.Entry.{area_places, areas_of, entries};
+ghost use Rattle.inc_entry.specs.Spans.{AreApart};
+ghost use Rattle.inc_entry.specs.Stored.{is_past};
+ghost use Rattle.inc_layout.specs.Backing.{IsBackingFile, IsLaidOut, laid_of, layout_in, opened_of, opened_with};
+ghost use Rattle.inc_layout.specs.Faults.{GivesOpening};
+ghost use Rattle.inc_layout.specs.Opening.{Accepts, IsLeastPast, IsSoundLayout, IsSoundOpened, layout_with};
+ghost use Rattle.inc_layout.specs.declared.fault.LayoutFault.TheVariants.{OutOfMemory as out_of_memory, ReadFault as read_fault};
+ghost use Rattle.inc_layout.specs.declared.opened.Layout.{Layout};
 ghost use Rattle.inc_layout.specs.declared.opened.Opened.{Opened};
 
 use crate::block_map::read_classes;
 use crate::fixed::{FixedPart, open_fixed};
 use crate::stored::read_digests;
-use crate::{ClassList, DigestList, LayoutFault, Opened};
-use inc_bytes::Digest32;
+use crate::{ClassList, DigestList, Layout, LayoutFault, Opened};
 use inc_entry::Class;
 use inc_io::Backing;
+use inc_tree::Digest32;
 use std::alloc::Global;
+
+/// Opens any backing file without reading a block of it, or answers the first test that it fails.
+///
+/// It reads the header once, each record at most twice, the signature blob once, and the block map in pieces of at most 64 KiB.
+pub fn open_shape<B: Backing>(alloc: Global, file: &mut B) -> Result<Layout, LayoutFault>
+    // The answer is computed so.
+    ensures answer { IfSome (B.reads (B.kept file.old)) (λ bytes. GivesOpening result (laid_of bytes)) }
+    // In words the file stands, and this is what it tells without its digests.
+    ensures stands { IfSome (B.reads (B.kept file.old)) (λ bytes. IfOk result (λ layout. IsLaidOut bytes layout)) }
+    // Each file that stands is taken.
+    ensures accepted { IfSome (B.reads (B.kept file.old)) (λ bytes. (wanted : Layout) → IsLaidOut bytes wanted → Accepts result wanted) }
+    // Of the entries that name a block past the end the fault tells the least.
+    ensures least { IfSome (B.reads (B.kept file.old)) (λ bytes. (i : ℕ) → result ≡ Err (LayoutFault.PlacePastEnd i) → IsLeastPast bytes i) }
+    ensures areas { IfOk result (λ layout. IsSoundLayout layout) }
+    ensures kept { B.kept file.new ≡ B.kept file.old }
+    ensures cause { HasCauseAt read_fault (B.faults file.old) (B.faults file.new) result }
+{
+    let part = open_fixed(alloc, file)?;
+    let classes = read_classes(alloc, file, &part.areas)?;
+    Ok(laid_out(part, classes))
+}
 
 /// Opens any backing file, or answers the first test that it fails.
 ///
-/// It reads the block map in pieces of at most 64 KiB and each stored block once, and keeps no more of them.
+/// It reads each stored block once behind what `open_shape` reads, and keeps no more of it than its digest.
 pub fn open_layout<B: Backing>(alloc: Global, file: &mut B) -> Result<Opened, LayoutFault>
     // The answer is computed so.
-    ensures answer { IfSome (B.reads (B.kept file.old)) (λ bytes. GivesOpened result (opened_of bytes)) }
+    ensures answer { IfSome (B.reads (B.kept file.old)) (λ bytes. GivesOpening result (opened_of bytes)) }
     // In words it is a backing file, and this is what it tells.
     ensures stands { IfSome (B.reads (B.kept file.old)) (λ bytes. IfOk result (λ opened. IsBackingFile bytes opened)) }
     // Each backing file is taken.
@@ -29,23 +53,42 @@ pub fn open_layout<B: Backing>(alloc: Global, file: &mut B) -> Result<Opened, La
     // Of the entries that name a block past the end the fault tells the least.
     ensures least { IfSome (B.reads (B.kept file.old)) (λ bytes. (i : ℕ) → result ≡ Err (LayoutFault.PlacePastEnd i) → IsLeastPast bytes i) }
     // No entry would be open in a longer file.
-    ensures none_past { IfSome (B.reads (B.kept file.old)) (λ bytes. IfOk result (λ opened. (i : ℕ) → i < entries (places_of opened.areas) →
-        is_past (places_of opened.areas) bytes i ≡ false)) }
+    ensures none_past { IfSome (B.reads (B.kept file.old)) (λ bytes. IfOk result (λ opened. (i : ℕ) → i < entries (area_places opened.areas) →
+        is_past (area_places opened.areas) bytes i ≡ false)) }
     // No byte lies in two areas.
-    ensures apart { IfOk result (λ opened. AreApart (areas_of (places_of opened.areas))) }
-    ensures areas { IfOk result (λ opened. IsSound opened) }
+    ensures apart { IfOk result (λ opened. AreApart (areas_of (area_places opened.areas))) }
+    ensures areas { IfOk result (λ opened. IsSoundOpened opened) }
     ensures kept { B.kept file.new ≡ B.kept file.old }
     ensures cause { HasCauseAt read_fault (B.faults file.old) (B.faults file.new) result }
 {
-    let part = open_fixed(alloc, file)?;
-    let classes = read_classes(alloc, file, &part.areas)?;
-    let digests = read_digests(alloc, file, &part.areas, classes.as_slice())?;
-    Ok(opened(part, classes, digests))
+    let layout = open_shape(alloc, file)?;
+    open_digests(alloc, file, layout)
+}
+
+/// Reads each stored block of a file that was laid out once, and keeps its digest: what `open_layout` does behind `open_shape`. Who may refuse
+/// the file by its layout does so before.
+pub fn open_digests<B: Backing>(
+    alloc: Global,
+    file: &mut B,
+    layout: Layout,
+) -> Result<Opened, LayoutFault>
+    requires sound { IsSoundLayout layout }
+    requires stands { IfSome (B.reads (B.kept file.old)) (λ bytes. IsLaidOut bytes layout) }
+    ensures answer { IfSome (B.reads (B.kept file.old)) (λ bytes. GivesOpening result (opened_of bytes)) }
+    ensures stands { IfSome (B.reads (B.kept file.old)) (λ bytes. IfOk result (λ opened. IsBackingFile bytes opened)) }
+    ensures same { IfOk result (λ opened. layout_in opened ≡ layout) }
+    ensures areas { IfOk result (λ opened. IsSoundOpened opened) }
+    ensures failed { IfErr result (λ fault. (fault ≡ read_fault) ⊎ (fault ≡ out_of_memory)) }
+    ensures kept { B.kept file.new ≡ B.kept file.old }
+    ensures cause { HasCauseAt read_fault (B.faults file.old) (B.faults file.new) result }
+{
+    let digests = read_digests(alloc, file, &layout.areas, layout.classes.as_slice())?;
+    Ok(opened(layout, digests))
 }
 
 /// Puts together what was read.
-fn opened(part: FixedPart, classes: Vec<Class>, digests: Vec<Option<Digest32>>) -> Opened
-    ensures value { result ≡ opened_with part classes.items digests.items }
+fn laid_out(part: FixedPart, classes: Vec<Class>) -> Layout
+    ensures value { result ≡ layout_with part classes.items }
 {
     let FixedPart {
         header,
@@ -54,12 +97,34 @@ fn opened(part: FixedPart, classes: Vec<Class>, digests: Vec<Option<Digest32>>) 
         areas,
     } = part;
     let len = areas.len;
-    Opened {
+    Layout {
         header,
         records,
         sig,
         areas,
         classes: ClassList::from_vec(classes),
+        len,
+    }
+}
+
+/// A layout with the digests of its stored blocks.
+fn opened(layout: Layout, digests: Vec<Option<Digest32>>) -> Opened
+    ensures value { result ≡ opened_with layout digests.items }
+{
+    let Layout {
+        header,
+        records,
+        sig,
+        areas,
+        classes,
+        len,
+    } = layout;
+    Opened {
+        header,
+        records,
+        sig,
+        areas,
+        classes,
         digests: DigestList::from_vec(digests),
         len,
     }

@@ -1,7 +1,8 @@
 ghost use Rattle.std.specs.Prelude.{◌≡◌};
+ghost use Rattle.inc_layout.specs.StaticRead.{static_error};
 ghost use Rattle.inc_layout.specs.declared.static_error.StaticError.TheVariants.{Corrupt as corrupt, OutOfMemory as out_of_memory, ReadFault as read_fault};
 
-use inc_io::Failed;
+use crate::StoredError;
 use inc_tree::{Broken, Digest32};
 use std::alloc::{AllocError, AllocFailed};
 
@@ -30,11 +31,14 @@ pub enum StaticError {
     OutOfMemory,
 }
 
-impl From<Failed> for StaticError {
-    ghost from_gives = { λ _ error. error ≡ read_fault };
+impl From<StoredError> for StaticError {
+    ghost from_gives = { λ inner error. error ≡ static_error inner };
 
-    fn from(_: Failed) -> Self {
-        StaticError::ReadFault
+    fn from(inner: StoredError) -> Self {
+        match inner {
+            StoredError::ReadFault => StaticError::ReadFault,
+            StoredError::OutOfMemory => StaticError::OutOfMemory,
+        }
     }
 }
 

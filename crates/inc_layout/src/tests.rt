@@ -1,5 +1,8 @@
+ghost use Rattle.std.specs.Prelude.{None};
+
 use super::*;
-use inc_io::Bytes;
+use crate::room::fill;
+use inc_io::{Backing, Bytes, Failed, MemFile};
 use inc_signature::{SigFault, SigInfo, print};
 use sha2::{Digest, Sha256};
 use std::alloc::Global;
@@ -42,6 +45,12 @@ const MANY_BLOCKS: [u8; 32] = [
     0x68, 0xe5, 0x27, 0xfb, 0x23, 0x73, 0xc2, 0xee, 0x55, 0xc9, 0xb5, 0x8a, 0x3b, 0x4f, 0x02, 0x4c,
 ];
 
+/// SHA-256 of the fresh unsigned file of 5000 bytes, by a program outside this repository.
+const TWO_UNSIGNED: [u8; 32] = [
+    0x3e, 0xdd, 0xe1, 0xd5, 0xdd, 0x9e, 0xa0, 0xe3, 0x8e, 0x8a, 0x35, 0x5f, 0x67, 0xdd, 0x7b, 0xcd,
+    0xde, 0x8f, 0x51, 0xaf, 0x7b, 0x4d, 0xfc, 0xc2, 0xa2, 0x75, 0x96, 0xe9, 0x8b, 0xc9, 0x35, 0x44,
+];
+
 /// The root over 4096 zeros.
 const ZEROS_ROOT: [u8; 32] = [
     0xad, 0x7f, 0xac, 0xb2, 0x58, 0x6f, 0xc6, 0xe9, 0x66, 0xc0, 0x04, 0xd7, 0xd1, 0xd1, 0x6b, 0x02,
@@ -54,21 +63,57 @@ fn blob(alloc: Global, root: [u8; 32]) -> Result<Bytes, OutOfMemory> {
     print(alloc, &SigInfo { root, signing })
 }
 
-/// Length and SHA-256 of a fresh file.
-fn made(alloc: Global, size: u64, root: [u8; 32]) -> Result<(usize, [u8; 32]), Fail> {
-    let sig = blob(alloc, root)?;
-    let image = fresh_image(alloc, size, ID, sig.as_slice())?;
+/// The greatest size of a content.
+const MOST: u64 = 1 << 34;
+
+/// Length and SHA-256 of a file that is told by its front.
+fn digest_of(alloc: Global, image: &FreshImage) -> Result<(u64, [u8; 32]), Fail> {
+    let front = image.front.as_slice();
+    let rest = image.len.saturating_sub(front.len() as u64);
     let mut hasher = Sha256::new();
-    hasher.update(image.as_slice());
-    Ok((image.len(), hasher.finalize()))
+    hasher.update(front);
+    hasher.update(vec![in alloc; 0u8; rest as usize]?.as_slice());
+    Ok((image.len, hasher.finalize()))
+}
+
+/// Length and SHA-256 of a fresh signed file.
+fn signed(alloc: Global, size: u64, root: [u8; 32]) -> Result<(u64, [u8; 32]), Fail> {
+    let sig = blob(alloc, root)?;
+    let image = fresh_image(alloc, size, ID, sig.as_slice())
+        .ok()
+        .ok_or("an image")?;
+    digest_of(alloc, &image)
 }
 
 #[test]
 fn a_fresh_file_is_the_outside_one_byte_for_byte(rt: HostRuntime) -> Result<(), Fail> {
-    assert_eq!(rt; made(rt.alloc(), 0, [0; 32])?, (250, EMPTY));
-    assert_eq!(rt; made(rt.alloc(), 4096, ZEROS_ROOT)?, (260, ONE_BLOCK));
-    assert_eq!(rt; made(rt.alloc(), 5000, ROOT)?, (8192, TWO_BLOCKS));
-    assert_eq!(rt; made(rt.alloc(), 528384, MANY_ROOT)?, (16384, MANY_BLOCKS));
+    assert_eq!(rt; signed(rt.alloc(), 0, [0; 32])?, (250, EMPTY));
+    assert_eq!(rt; signed(rt.alloc(), 4096, ZEROS_ROOT)?, (260, ONE_BLOCK));
+    assert_eq!(rt; signed(rt.alloc(), 5000, ROOT)?, (8192, TWO_BLOCKS));
+    assert_eq!(rt;
+        signed(rt.alloc(), 528384, MANY_ROOT)?,
+        (16384, MANY_BLOCKS)
+    );
+    Ok(())
+}
+
+#[test]
+fn a_fresh_unsigned_file_has_its_map_behind_two_records(rt: HostRuntime) -> Result<(), Fail> {
+    let image = fresh_unsigned(rt.alloc(), 5000, ID).ok().ok_or("an image")?;
+    assert_eq!(rt; digest_of(rt.alloc(), &image)?, (166, TWO_UNSIGNED));
+    Ok(())
+}
+
+#[test]
+fn a_file_of_16_gib_is_told_by_its_front(rt: HostRuntime) -> Result<(), Fail> {
+    let sig = blob(rt.alloc(), ROOT)?;
+    let image = fresh_image(rt.alloc(), MOST, ID, sig.as_slice())
+        .ok()
+        .ok_or("an image")?;
+    assert_eq!(rt; (image.front.len(), image.len), (250, 177553408));
+    let image = fresh_unsigned(rt.alloc(), MOST, ID).ok().ok_or("an image")?;
+    assert_eq!(rt; (image.front.len(), image.len), (146, 41943186));
+    assert!(rt; fresh_unsigned(rt.alloc(), MOST + 1, ID).err() == Some(FreshFault::TooLarge));
     Ok(())
 }
 
@@ -77,14 +122,79 @@ fn the_signature_is_judged_before_the_size(rt: HostRuntime) -> Result<(), Fail> 
     let good = blob(rt.alloc(), ROOT)?;
     let mut bad = good.as_slice().to_vec(rt.alloc())?;
     bad.push(0)?;
-    let large = (1 << 30) + 1;
-    assert_eq!(rt;
-        fresh_image(rt.alloc(), large, ID, &bad).err(),
-        Some(FreshFault::Signature(SigFault::Trailing))
+    assert!(rt;
+        fresh_image(rt.alloc(), MOST + 1, ID, &bad).err()
+            == Some(FreshFault::Signature(SigFault::Trailing))
     );
-    assert_eq!(rt;
-        fresh_image(rt.alloc(), large, ID, good.as_slice()).err(),
-        Some(FreshFault::TooLarge)
+    assert!(rt;
+        fresh_image(rt.alloc(), MOST + 1, ID, good.as_slice()).err() == Some(FreshFault::TooLarge)
     );
+    Ok(())
+}
+
+/// An unsigned file of 5000 bytes whose second block is stored at its end, on a device that fails past so many calls.
+fn half_filled(alloc: Global, calls: u32) -> Result<MemFile, Fail> {
+    let image = fresh_unsigned(alloc, 5000, ID).ok().ok_or("an image")?;
+    let mut bytes = image.front.as_slice().to_vec(alloc)?;
+    bytes.extend_from_slice(&[0; 10])?;
+    bytes.extend_from_slice(&[166, 0, 0, 0, 0, 0, 0, 0x10, 0, 0])?;
+    bytes.resize(166 + 4096, 7)?;
+    Ok(MemFile::new(Bytes::from_vec(bytes), calls))
+}
+
+/// What a read of a block of it shows: its own bytes in number, and whether it is proved.
+fn shown(alloc: Global, index: u32, calls: u32) -> Result<Option<(u32, bool)>, Fail> {
+    let mut file = half_filled(alloc, calls)?;
+    let Ok(layout) = open_shape(alloc, &mut file) else {
+        return Ok(None);
+    };
+    let Ok(block) = show_laid(alloc, &mut file, &layout, index) else {
+        return Ok(None);
+    };
+    Ok(Some((block.len(), block.is_proved())))
+}
+
+#[test]
+fn one_block_is_read_without_the_others(rt: HostRuntime) -> Result<(), Fail> {
+    // Length, header, two reads for the map record and two for the status record, the map, and the block.
+    assert_eq!(rt; shown(rt.alloc(), 1, 8)?, Some((904, false)));
+    assert_eq!(rt; shown(rt.alloc(), 1, 7)?, None);
+    assert_eq!(rt; shown(rt.alloc(), 0, 8)?, None);
+    Ok(())
+}
+
+/// A file that tells nothing and has two bytes at every place.
+#[derive(Drop)]
+struct TwoBytes;
+
+impl Backing for TwoBytes {
+    type Kept = ();
+
+    ghost kept = { λ _. tt };
+
+    ghost reads = { λ _. None };
+
+    ghost faults = { λ _. 0 };
+
+    fn fault_count(&self) -> u64 {
+        0
+    }
+
+    fn len(&mut self) -> Result<u64, Failed> {
+        Ok(2)
+    }
+
+    fn read_at(&mut self, _: u64, room: &mut [u8]) -> Result<usize, Failed> {
+        let count = room.len().min(2);
+        room[..count].fill(1);
+        Ok(count)
+    }
+}
+
+#[test]
+fn what_a_file_does_not_have_is_read_as_zeros(rt: HostRuntime) -> Result<(), Fail> {
+    let mut room = [9; 4];
+    fill(&mut TwoBytes, 0, &mut room).ok().ok_or("a read")?;
+    assert_eq!(rt; room, [1, 1, 0, 0]);
     Ok(())
 }

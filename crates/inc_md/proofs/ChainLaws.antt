@@ -11,7 +11,7 @@ use Rattle.inc_md.specs.declared.fault.ChainFault.{ChainFault}
 use Rattle.inc_md.specs.declared.fault.ChainFault.TheVariants.{Outside, NotRising, BadSize, TwoMaps, TwoSignatures, TooMany}
 use Rattle.inc_md.specs.declared.head.Head.{Head}
 use Rattle.inc_md.specs.Record.{head_of, is_size, place_tests, head_tests, map_fields, sig_fields, span_of}
-use Rattle.inc_md.specs.Chain.{first_of_kind, record_tests, Follow, IsFront, unless_failing, places_from, places_of}
+use Rattle.inc_md.specs.Chain.{first_of_kind, record_tests, Follow, IsChainFront, unless_failing, places_from, places_along}
 use Rattle.inc_md.proofs.Stepping.{append_none}
 use Rattle.inc_md.proofs.Chains.{whole_chain}
 
@@ -59,15 +59,15 @@ sound_chain (suc more) bytes len met at found =
     ] refl
 
 -- the places that the function answers are a whole chain
-pub places_follow : (bytes : List ℕ) (len first : ℕ) (places : List ℕ) → places_of bytes len first ≡ Ok places → IsFront bytes len first places 0
-unfolding places_of
+pub places_follow : (bytes : List ℕ) (len first : ℕ) (places : List ℕ) → places_along bytes len first ≡ Ok places → IsChainFront bytes len first places 0
+unfolding places_along
 places_follow bytes len first places e =
     let found = sound_chain 1024 bytes len [] first places e in
     subst (λ (xs : List ℕ). Follow bytes len [] first xs 0) (sym found.is) found.follow
 
 -- and a whole chain is what the function answers
-pub follow_places : (bytes : List ℕ) (len first : ℕ) (places : List ℕ) → IsFront bytes len first places 0 → places_of bytes len first ≡ Ok places
-unfolding places_of
+pub follow_places : (bytes : List ℕ) (len first : ℕ) (places : List ℕ) → IsChainFront bytes len first places 0 → places_along bytes len first ≡ Ok places
+unfolding places_along
 follow_places bytes len first places front = whole_chain 1024 bytes len [] first places refl front
 
 -- ---- the tests of a record, one by one
@@ -195,7 +195,7 @@ follow_same a b len more met at (place ∷ places) next le fits_a fits_b same he
 
 -- a file that agrees on what each record begins with and is no shorter has the same chain
 pub places_same : (a b : List ℕ) (len more first : ℕ) (places : List ℕ) → len ≤ more → len ≤ length a → more ≤ length b
-    → places_of a len first ≡ Ok places → SameHeads a b places → places_of b more first ≡ Ok places
+    → places_along a len first ≡ Ok places → SameHeads a b places → places_along b more first ≡ Ok places
 places_same a b len more first places le fits_a fits_b e heads =
     follow_places b more first places (follow_same a b len more [] first places 0 le fits_a fits_b tt heads (places_follow a len first places e))
 

@@ -8,7 +8,7 @@ use Rattle.inc_md.specs.declared.fault.ChainFault.{ChainFault}
 use Rattle.inc_md.specs.declared.fault.ChainFault.TheVariants.{NoMap, TooMany}
 use Rattle.inc_md.specs.declared.records.Records.{Records}
 use Rattle.inc_md.specs.Record.{head_of}
-use Rattle.inc_md.specs.Chain.{record_tests, Follow, records_of, unless_failing, places_from, places_of, records_with, chain_of}
+use Rattle.inc_md.specs.Chain.{record_tests, Follow, records_of, unless_failing, places_from, places_along, records_if_mapped, chain_of}
 use Rattle.inc_md.specs.Outcome.{IsChain, HasFault}
 use Rattle.inc_md.proofs.Stepping.{append_none, mapped_places}
 use Rattle.inc_md.proofs.Chains.{IsReadTo, ended, chain_found, map_missing, has_fault, not_at_record, one_more}
@@ -74,23 +74,23 @@ sound_fault (suc more) bytes len met at fault count =
     ] refl
 
 -- the end of a chain, by its places and by what they say
-same_end : (bytes places : List ℕ) (need_map : Bool) → ended need_map (records_of bytes places) ≡ records_with bytes need_map (Ok places)
+same_end : (bytes places : List ℕ) (need_map : Bool) → ended need_map (records_of bytes places) ≡ records_if_mapped bytes need_map (Ok places)
 same_end bytes places need_map = ap (λ (mapped : Bool). cond (need_map && not mapped) (Err NoMap) (Ok (records_of bytes places))) (mapped_places bytes places)
 
-read_all : (bytes : List ℕ) (len first : ℕ) (places : List ℕ) → places_of bytes len first ≡ Ok places → IsReadTo bytes len first (records_of bytes places) 0
+read_all : (bytes : List ℕ) (len first : ℕ) (places : List ℕ) → places_along bytes len first ≡ Ok places → IsReadTo bytes len first (records_of bytes places) 0
 read_all bytes len first places e = record { places = places; front = places_follow bytes len first places e; said = refl }
 
 pub chain_said : (bytes : List ℕ) (len first : ℕ) (need_map : Bool) → IfOk (chain_of bytes len first need_map) (λ records. IsChain bytes len first need_map records)
 unfolding chain_of
 chain_said bytes len first need_map =
-    elim (places_of bytes len first) as (λ r. places_of bytes len first ≡ r → IfOk (records_with bytes need_map r) (λ records. IsChain bytes len first need_map records)) [
+    elim (places_along bytes len first) as (λ r. places_along bytes len first ≡ r → IfOk (records_if_mapped bytes need_map r) (λ records. IsChain bytes len first need_map records)) [
       | Ok places ↦ λ e. subst (λ (r : Result Records ChainFault). IfOk r (λ records. IsChain bytes len first need_map records)) (same_end bytes places need_map)
           (chain_found bytes len first need_map (records_of bytes places) (read_all bytes len first places e))
       | Err fault ↦ λ e. tt
     ] refl
 
-fault_said : (bytes : List ℕ) (len first : ℕ) (need_map : Bool) (fault : ChainFault) → places_of bytes len first ≡ Err fault → HasFault bytes len first need_map fault
-unfolding places_of
+fault_said : (bytes : List ℕ) (len first : ℕ) (need_map : Bool) (fault : ChainFault) → places_along bytes len first ≡ Err fault → HasFault bytes len first need_map fault
+unfolding places_along
 fault_said bytes len first need_map fault e =
     let at = sound_fault 1024 bytes len [] first fault refl e in
     has_fault bytes len first need_map fault (not_at_record bytes len at.places at.stop fault at.fails)
@@ -99,7 +99,7 @@ fault_said bytes len first need_map fault e =
 pub chain_refused : (bytes : List ℕ) (len first : ℕ) (need_map : Bool) → IfErr (chain_of bytes len first need_map) (λ fault. HasFault bytes len first need_map fault)
 unfolding chain_of
 chain_refused bytes len first need_map =
-    elim (places_of bytes len first) as (λ r. places_of bytes len first ≡ r → IfErr (records_with bytes need_map r) (λ fault. HasFault bytes len first need_map fault)) [
+    elim (places_along bytes len first) as (λ r. places_along bytes len first ≡ r → IfErr (records_if_mapped bytes need_map r) (λ fault. HasFault bytes len first need_map fault)) [
       | Ok places ↦ λ e. subst (λ (r : Result Records ChainFault). IfErr r (λ fault. HasFault bytes len first need_map fault)) (same_end bytes places need_map)
           (map_missing bytes len first need_map (records_of bytes places) (read_all bytes len first places e))
       | Err fault ↦ λ e. fault_said bytes len first need_map fault e

@@ -10,8 +10,8 @@ use Rattle.inc_md.specs.declared.fault.ChainFault.{ChainFault}
 use Rattle.inc_md.specs.declared.fault.ChainFault.TheVariants.{Outside, NotRising, BadSize, TwoMaps, NoMap, TwoSignatures, TooMany, ReadFault, OutOfMemory}
 use Rattle.inc_md.specs.declared.records.Records.{Records}
 use Rattle.inc_md.specs.Record.{head_of, head_tests}
-use Rattle.inc_md.specs.Chain.{record_tests, Follow, IsFront, records_of, places_from, places_of, records_with, chain_of}
-use Rattle.inc_md.specs.Outcome.{Gives, GivesFault, IsChain, FailsAtRecord, HasFault}
+use Rattle.inc_md.specs.Chain.{record_tests, Follow, IsChainFront, records_of, places_from, places_along, records_if_mapped, chain_of}
+use Rattle.inc_md.specs.Outcome.{GivesChain, GivesChainFault, IsChain, FailsAtRecord, HasFault}
 use Rattle.inc_md.specs.Step.{tests_after, with_record, FailsBy}
 use Rattle.inc_md.proofs.Stepping.{append_none, Follow-more, records_more, same_tests, mapped_places}
 
@@ -67,7 +67,7 @@ broken_chain (suc more) bytes len met at (place ∷ places) next fault e follow 
 
 pub record IsReadTo (bytes : List ℕ) (len first : ℕ) (records : Records) (at : ℕ) : Type 0 where
   pub places : List ℕ
-  pub front : IsFront bytes len first places at
+  pub front : IsChainFront bytes len first places at
   pub said : records ≡ records_of bytes places
 
 -- the answer at the end of a chain
@@ -75,21 +75,21 @@ abbrev pub ended : Bool → Records → Result Records ChainFault
 ended need_map records = cond (need_map && not (is_some records.map)) (Err NoMap) (Ok records)
 
 chain_at_end : (bytes : List ℕ) (len first : ℕ) (need_map : Bool) (records : Records) → IsReadTo bytes len first records 0 → chain_of bytes len first need_map ≡ ended need_map records
-unfolding chain_of places_of
+unfolding chain_of places_along
 chain_at_end bytes len first need_map records is =
-    ap (records_with bytes need_map) (whole_chain 1024 bytes len [] first is.places refl is.front)
+    ap (records_if_mapped bytes need_map) (whole_chain 1024 bytes len [] first is.places refl is.front)
     ∙ ap (λ (mapped : Bool). cond (need_map && not mapped) (Err NoMap) (Ok (records_of bytes is.places))) (sym (mapped_places bytes is.places))
     ∙ ap (ended need_map) (sym is.said)
 
-chain_at_fault : (bytes : List ℕ) (len first : ℕ) (need_map : Bool) (places : List ℕ) (at : ℕ) (fault : ChainFault) → IsFront bytes len first places at → 0 < at
+chain_at_fault : (bytes : List ℕ) (len first : ℕ) (need_map : Bool) (places : List ℕ) (at : ℕ) (fault : ChainFault) → IsChainFront bytes len first places at → 0 < at
     → first_failing (record_tests bytes len places at) ≡ Some fault → chain_of bytes len first need_map ≡ Err fault
-unfolding chain_of places_of
+unfolding chain_of places_along
 chain_at_fault bytes len first need_map places at fault front there fails =
-    ap (records_with bytes need_map) (broken_chain 1024 bytes len [] first places at fault refl front there fails)
+    ap (records_if_mapped bytes need_map) (broken_chain 1024 bytes len [] first places at fault refl front there fails)
 
 -- ---- what it may answer
 
-gives_fault : (fault : ChainFault) (wanted : Result Records ChainFault) → wanted ≡ Err fault → GivesFault fault wanted
+gives_fault : (fault : ChainFault) (wanted : Result Records ChainFault) → wanted ≡ Err fault → GivesChainFault fault wanted
 gives_fault (Outside at) wanted e = e
 gives_fault (NotRising at next) wanted e = e
 gives_fault (BadSize at) wanted e = e
@@ -100,7 +100,7 @@ gives_fault TooMany wanted e = e
 gives_fault ReadFault wanted e = tt
 gives_fault OutOfMemory wanted e = tt
 
-gives_same : (result wanted : Result Records ChainFault) → wanted ≡ result → Gives result wanted
+gives_same : (result wanted : Result Records ChainFault) → wanted ≡ result → GivesChain result wanted
 gives_same (Ok records) wanted e = e
 gives_same (Err fault) wanted e = gives_fault fault wanted e
 
@@ -147,7 +147,7 @@ read_on bytes len first at next records after there is passes next-is said =
     let passes' : first_failing (record_tests bytes len is.places at) ≡ None = subst (λ (tests : List (Bool × ChainFault)). first_failing tests ≡ None) (same_tests bytes len is.places at) told_passes in
     record {
       places = is.places ++ at ∷ [];
-      front = subst (λ (n : ℕ). IsFront bytes len first (is.places ++ at ∷ []) n) (sym next-is) (Follow-more bytes len [] first is.places at is.front there passes');
+      front = subst (λ (n : ℕ). IsChainFront bytes len first (is.places ++ at ∷ []) n) (sym next-is) (Follow-more bytes len [] first is.places at is.front there passes');
       said = said ∙ ap (with_record bytes at) is.said ∙ records_more bytes len is.places at told_passes;
     }
 
@@ -176,15 +176,15 @@ failed_at bytes len first at records fault there is fails =
 pub fault_given : (told : Option (List ℕ)) (len first at : ℕ) (need_map : Bool) (records : Records) (fault : ChainFault) → 0 < at
     → IfSome told (λ bytes. IsReadTo bytes len first records at)
     → IfSome told (λ bytes. FailsBy (first_failing (tests_after records bytes len at)) fault)
-    → IfSome told (λ bytes. GivesFault fault (chain_of bytes len first need_map))
+    → IfSome told (λ bytes. GivesChainFault fault (chain_of bytes len first need_map))
 fault_given None len first at need_map records fault there is fails = tt
 fault_given (Some bytes) len first at need_map records fault there is fails =
     elim fails [
       | inl failing ↦ let at_record = failed_at bytes len first at records fault there is failing in
           gives_fault fault _ (chain_at_fault bytes len first need_map at_record.places at_record.at fault at_record.front at_record.there at_record.fails)
       | inr free ↦ elim free [
-        | inl e ↦ subst (λ (f : ChainFault). GivesFault f (chain_of bytes len first need_map)) (sym e) tt
-        | inr e ↦ subst (λ (f : ChainFault). GivesFault f (chain_of bytes len first need_map)) (sym e) tt
+        | inl e ↦ subst (λ (f : ChainFault). GivesChainFault f (chain_of bytes len first need_map)) (sym e) tt
+        | inr e ↦ subst (λ (f : ChainFault). GivesChainFault f (chain_of bytes len first need_map)) (sym e) tt
       ]
     ]
 
@@ -210,7 +210,7 @@ at_end bytes len first at records e is = subst (λ (n : ℕ). IsReadTo bytes len
 pub end_given : (told : Option (List ℕ)) (len first at : ℕ) (need_map : Bool) (records : Records) (result : Result Records ChainFault) → at ≡ 0
     → result ≡ ended need_map records
     → IfSome told (λ bytes. IsReadTo bytes len first records at)
-    → IfSome told (λ bytes. Gives result (chain_of bytes len first need_map))
+    → IfSome told (λ bytes. GivesChain result (chain_of bytes len first need_map))
 end_given None len first at need_map records result e answer is = tt
 end_given (Some bytes) len first at need_map records result e answer is =
     gives_same result _ (chain_at_end bytes len first need_map records (at_end bytes len first at records e is) ∙ sym answer)

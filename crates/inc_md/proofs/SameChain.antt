@@ -1,19 +1,18 @@
 -- A file that agrees with another on the bytes that its chain rests on, and is no shorter, has the same chain.
-use Rattle.std.proofs.Common.{◌≡◌, ◌⊎◌, ℕ, zero, suc, ◌+◌, ◌<◌, ◌≤◌, Bool, true, false, cond, ◌&&◌, ◌||◌, eqb, leb, ltb, List, [], ◌∷◌, ◌++◌, length, Option, Some, None, inl, inr, refl, sym, ap, ◌∙◌, subst, arith}
+use Rattle.std.proofs.Common.{◌≡◌, ◌⊎◌, ℕ, ◌+◌, ◌<◌, ◌≤◌, Bool, true, false, cond, ◌&&◌, ◌||◌, eqb, leb, ltb, List, [], ◌∷◌, ◌++◌, length, Option, Some, None, inl, inr, refl, sym, ap, ◌∙◌, subst, arith}
 use Rattle.std.specs.Prelude.{not, is_some, IsSome, map, option_map, slice_index}
 use Rattle.std.specs.List.{list_any}
 use Rattle.std.proofs.lemmas.Bool.Decides.{nat_tests}
 use Rattle.inc_bytes.specs.declared.span.Span.{Span}
 use Rattle.inc_bytes.specs.Tests.{first_failing}
-use Rattle.inc_md.specs.declared.head.Head.{Head}
 use Rattle.inc_md.specs.declared.records.Records.{Records}
 use Rattle.inc_md.specs.declared.records.MapRecord.{MapRecord}
 use Rattle.inc_md.specs.declared.records.SigRecord.{SigRecord}
 use Rattle.inc_md.specs.declared.records.StatusRecord.{StatusRecord}
 use Rattle.inc_md.specs.Record.{head_of, is_size, map_fields, sig_fields, status_fields, span_of}
-use Rattle.inc_md.specs.Chain.{first_of_kind, record_tests, Follow, IsFront, records_of}
+use Rattle.inc_md.specs.Chain.{first_of_kind, record_tests, Follow, IsChainFront, records_of}
 use Rattle.inc_md.specs.Outcome.{IsChain}
-use Rattle.inc_md.specs.Staying.{in_span, in_counts, is_chain_byte, AgreesOnChain, IsSameChain, HasSameChain}
+use Rattle.inc_md.specs.Staying.{in_span, in_counts, AgreesOnChain, IsSameChain, HasSameChain}
 use Rattle.inc_md.proofs.ChainLaws.{Passes, parts, SameBytes, SameHeads, same_within, first_same, follow_same, spans_same, map_same, sig_same}
 
 -- ---- the records of a chain
@@ -122,7 +121,7 @@ above p size s j le sized ge = grind (arith, nat_tests)
 not_status : (bytes : List ℕ) (p s : ℕ) → p ≡ s → eqb (head_of bytes s).kind 4 ≡ true → eqb (head_of bytes p).kind 4 ≡ false → ⊥
 not_status bytes p s e is other = let moved = subst (λ (q : ℕ). eqb (head_of bytes q).kind 4 ≡ true) (sym e) is in cc
 
-spares : (bytes : List ℕ) (len first : ℕ) (places : List ℕ) → IsFront bytes len first places 0 → (s : Option ℕ) → first_of_kind bytes 4 places ≡ s
+spares : (bytes : List ℕ) (len first : ℕ) (places : List ℕ) → IsChainFront bytes len first places 0 → (s : Option ℕ) → first_of_kind bytes 4 places ≡ s
     → (p j : ℕ) → In p places → p ≤ j → j < p + (head_of bytes p).size → (j < p + 23) ⊎ (eqb (head_of bytes p).kind 4 ≡ false)
     → in_counts (status_in bytes s) j ≡ false
 spares bytes len first places front None e p j among ge lt where_ = refl
@@ -161,7 +160,7 @@ both : (a b : Bool) → a ≡ true → b ≡ false → (a && not b) ≡ true
 both a b e f = cc
 
 -- a place in a record, of its first 23 bytes or where it is no status record
-same_at : (a b : List ℕ) (len first : ℕ) (places : List ℕ) → IsFront a len first places 0 → AgreesOnChain (records_of a places) a b
+same_at : (a b : List ℕ) (len first : ℕ) (places : List ℕ) → IsChainFront a len first places 0 → AgreesOnChain (records_of a places) a b
     → (p j : ℕ) → In p places → p ≤ j → j < p + (head_of a p).size → (j < p + 23) ⊎ (eqb (head_of a p).kind 4 ≡ false) → slice_index a j ≡ slice_index b j
 unfolding records_of
 same_at a b len first places front agrees p j among ge lt where_ =
@@ -174,14 +173,14 @@ heads_of a b [] each = tt
 heads_of a b (place ∷ places) each = (each place (inl refl), heads_of a b places (λ p among. each p (inr among)))
 
 -- of a record that isn't the status record all bytes are the same, and of each record the first 23
-first_bytes : (a b : List ℕ) (len first : ℕ) (places : List ℕ) → IsFront a len first places 0 → AgreesOnChain (records_of a places) a b
+first_bytes : (a b : List ℕ) (len first : ℕ) (places : List ℕ) → IsChainFront a len first places 0 → AgreesOnChain (records_of a places) a b
     → (p : ℕ) → In p places → SameBytes a b p 23
 first_bytes a b len first places front agrees p among j lt =
     let is = placed a len [] first places 0 front p among in
     let least_size : 23 ≤ (head_of a p).size = least (head_of a p).kind _ is.sized in
     same_at a b len first places front agrees p (p + j) among (omega arith) (omega arith) (inl (omega arith))
 
-all_bytes : (a b : List ℕ) (len first : ℕ) (places : List ℕ) → IsFront a len first places 0 → AgreesOnChain (records_of a places) a b
+all_bytes : (a b : List ℕ) (len first : ℕ) (places : List ℕ) → IsChainFront a len first places 0 → AgreesOnChain (records_of a places) a b
     → (p : ℕ) → In p places → eqb (head_of a p).kind 4 ≡ false → SameBytes a b p (head_of a p).size
 all_bytes a b len first places front agrees p among other j lt =
     same_at a b len first places front agrees p (p + j) among (omega arith) (omega arith) (inr other)
@@ -189,7 +188,7 @@ all_bytes a b len first places front agrees p among other j lt =
 other_kind : (kind wanted : ℕ) → eqb kind wanted ≡ true → eqb wanted 4 ≡ false → eqb kind 4 ≡ false
 other_kind kind wanted e ne = grind (arith, nat_tests)
 
-map_stays : (a b : List ℕ) (len first : ℕ) (places : List ℕ) → IsFront a len first places 0 → AgreesOnChain (records_of a places) a b → len ≤ length a → len ≤ length b
+map_stays : (a b : List ℕ) (len first : ℕ) (places : List ℕ) → IsChainFront a len first places 0 → AgreesOnChain (records_of a places) a b → len ≤ length a → len ≤ length b
     → (s : Option ℕ) → first_of_kind a 1 places ≡ s → option_map (λ place. map_fields b (place + 23)) s ≡ option_map (λ place. map_fields a (place + 23)) s
 map_stays a b len first places front agrees fits_a fits_b None e = refl
 map_stays a b len first places front agrees fits_a fits_b (Some s) e =
@@ -201,7 +200,7 @@ map_stays a b len first places front agrees fits_a fits_b (Some s) e =
     let fields = map_same a b (s + 23) (omega (arith, size, ends, fits_a)) (omega (arith, size, ends, fits_b)) (same_within a b s (head_of a s).size 23 12 all (omega (arith, size))) in
     ap (λ (m : MapRecord). Some m) (sym fields)
 
-signature_stays : (a b : List ℕ) (len first : ℕ) (places : List ℕ) → IsFront a len first places 0 → AgreesOnChain (records_of a places) a b → len ≤ length a → len ≤ length b
+signature_stays : (a b : List ℕ) (len first : ℕ) (places : List ℕ) → IsChainFront a len first places 0 → AgreesOnChain (records_of a places) a b → len ≤ length a → len ≤ length b
     → (s : Option ℕ) → first_of_kind a 3 places ≡ s → option_map (λ place. sig_fields b (place + 23)) s ≡ option_map (λ place. sig_fields a (place + 23)) s
 signature_stays a b len first places front agrees fits_a fits_b None e = refl
 signature_stays a b len first places front agrees fits_a fits_b (Some s) e =
@@ -220,7 +219,7 @@ status_place a b (Some s) = refl
 is_some_map : (b : List ℕ) (s : Option ℕ) (old : Option MapRecord) → IsSome old → old ≡ option_map (λ place. map_fields b (place + 23)) s → IsSome (option_map (λ place. map_fields b (place + 23)) s)
 is_some_map b s old some e = subst (λ (m : Option MapRecord). IsSome m) e some
 
-same_records : (a b : List ℕ) (len first : ℕ) (places : List ℕ) → IsFront a len first places 0 → AgreesOnChain (records_of a places) a b → len ≤ length a → len ≤ length b
+same_records : (a b : List ℕ) (len first : ℕ) (places : List ℕ) → IsChainFront a len first places 0 → AgreesOnChain (records_of a places) a b → len ≤ length a → len ≤ length b
     → SameHeads a b places → IsSameChain (records_of a places) (records_of b places)
 unfolding records_of
 same_records a b len first places front agrees fits_a fits_b heads = record {
@@ -238,7 +237,7 @@ mapped_too : (need_map : Bool) (old new : Records) → IsSameChain old new → (
 mapped_too need_map old new same mapped e = subst (λ (m : Option MapRecord). IsSome m) (sym same.map) (mapped e)
 
 chain_too : (a b : List ℕ) (len more first : ℕ) (need_map : Bool) (places : List ℕ) → len ≤ more → len ≤ length a → more ≤ length b
-    → IsFront a len first places 0 → length places ≤ 1024 → (need_map ≡ true → IsSome (records_of a places).map) → AgreesOnChain (records_of a places) a b
+    → IsChainFront a len first places 0 → length places ≤ 1024 → (need_map ≡ true → IsSome (records_of a places).map) → AgreesOnChain (records_of a places) a b
     → HasSameChain b more first need_map (records_of a places)
 chain_too a b len more first need_map places le fits_a fits_b front few mapped agrees =
     let heads : SameHeads a b places = heads_of a b places (λ p among j lt. first_bytes a b len first places front agrees p among j (omega arith)) in
@@ -281,7 +280,7 @@ span_among bytes at [] s among has = absurd among
 span_among bytes at (place ∷ places) s (inl e) has = inl (subst (λ (q : ℕ). HasCounts at (span_of bytes q)) e has)
 span_among bytes at (place ∷ places) s (inr among) has = inr (span_among bytes at places s among has)
 
-counts_found : (bytes : List ℕ) (len first : ℕ) (places : List ℕ) → IsFront bytes len first places 0 → (status : StatusRecord)
+counts_found : (bytes : List ℕ) (len first : ℕ) (places : List ℕ) → IsChainFront bytes len first places 0 → (status : StatusRecord)
     → (s : Option ℕ) → first_of_kind bytes 4 places ≡ s → status_in bytes s ≡ Some status → HasSpan (HasCounts status.at) (map (span_of bytes) places)
 counts_found bytes len first places front status None e is = absurd cc
 counts_found bytes len first places front status (Some s) e is =

@@ -26,8 +26,8 @@ Follow bytes len met at (place ∷ places) next =
     × Follow bytes len (met ++ place ∷ []) (head_of bytes place).next places next
 
 -- a chain that begins at `first` begins with the records at these places
-abbrev pub IsFront : List ℕ → ℕ → ℕ → List ℕ → ℕ → Type 0
-IsFront bytes len first places next = Follow bytes len [] first places next
+abbrev pub IsChainFront : List ℕ → ℕ → ℕ → List ℕ → ℕ → Type 0
+IsChainFront bytes len first places next = Follow bytes len [] first places next
 
 -- what the records at these places say: of each type the first one counts
 unfoldable pub records_of : List ℕ → List ℕ → Records
@@ -52,13 +52,13 @@ places_from (suc more) bytes len met at =
     if at == 0 then Ok met
     else unless_failing (first_failing (record_tests bytes len met at)) (places_from more bytes len (met ++ at ∷ []) (head_of bytes at).next)
 
-unfoldable pub places_of : List ℕ → ℕ → ℕ → Result (List ℕ) ChainFault
-places_of bytes len first = places_from 1024 bytes len [] first
+unfoldable pub places_along : List ℕ → ℕ → ℕ → Result (List ℕ) ChainFault
+places_along bytes len first = places_from 1024 bytes len [] first
 
 -- a map has to be there where it is needed
-abbrev pub records_with : List ℕ → Bool → Result (List ℕ) ChainFault → Result Records ChainFault
-records_with bytes need_map (Ok places) = if need_map && not (is_some (first_of_kind bytes 1 places)) then Err NoMap else Ok (records_of bytes places)
-records_with bytes need_map (Err fault) = Err fault
+abbrev pub records_if_mapped : List ℕ → Bool → Result (List ℕ) ChainFault → Result Records ChainFault
+records_if_mapped bytes need_map (Ok places) = if need_map && not (is_some (first_of_kind bytes 1 places)) then Err NoMap else Ok (records_of bytes places)
+records_if_mapped bytes need_map (Err fault) = Err fault
 
 unfoldable pub chain_of : List ℕ → ℕ → ℕ → Bool → Result Records ChainFault
-chain_of bytes len first need_map = records_with bytes need_map (places_of bytes len first)
+chain_of bytes len first need_map = records_if_mapped bytes need_map (places_along bytes len first)

@@ -4,22 +4,22 @@ use Rattle.inc_bytes.specs.Tests.{first_failing}
 use Rattle.inc_md.specs.declared.fault.ChainFault.{ChainFault}
 use Rattle.inc_md.specs.declared.fault.ChainFault.TheVariants.{NoMap, ReadFault, OutOfMemory}
 use Rattle.inc_md.specs.declared.records.Records.{Records}
-use Rattle.inc_md.specs.Chain.{record_tests, IsFront, first_of_kind, records_of}
+use Rattle.inc_md.specs.Chain.{record_tests, IsChainFront, first_of_kind, records_of}
 
 -- the fault is this answer, or one of the device or of memory
-abbrev pub GivesFault : ChainFault → Result Records ChainFault → Type 0
-GivesFault ReadFault wanted = Unit {0}
-GivesFault OutOfMemory wanted = Unit {0}
-GivesFault fault wanted = wanted ≡ Err fault
+abbrev pub GivesChainFault : ChainFault → Result Records ChainFault → Type 0
+GivesChainFault ReadFault wanted = Unit {0}
+GivesChainFault OutOfMemory wanted = Unit {0}
+GivesChainFault fault wanted = wanted ≡ Err fault
 
-abbrev pub Gives : Result Records ChainFault → Result Records ChainFault → Type 0
-Gives (Ok records) wanted = wanted ≡ Ok records
-Gives (Err fault) wanted = GivesFault fault wanted
+abbrev pub GivesChain : Result Records ChainFault → Result Records ChainFault → Type 0
+GivesChain (Ok records) wanted = wanted ≡ Ok records
+GivesChain (Err fault) wanted = GivesChainFault fault wanted
 
 -- the whole chain passed its tests, and this is what it says
 pub record IsChain (bytes : List ℕ) (len first : ℕ) (need_map : Bool) (records : Records) : Type 0 where
   pub places : List ℕ
-  pub whole : IsFront bytes len first places 0
+  pub whole : IsChainFront bytes len first places 0
   pub few : length places ≤ 1024
   pub said : records ≡ records_of bytes places
   pub mapped : need_map ≡ true → IsSome records.map
@@ -28,14 +28,14 @@ pub record IsChain (bytes : List ℕ) (len first : ℕ) (need_map : Bool) (recor
 pub record FailsAtRecord (bytes : List ℕ) (len first : ℕ) (fault : ChainFault) : Type 0 where
   pub places : List ℕ
   pub at : ℕ
-  pub front : IsFront bytes len first places at
+  pub front : IsChainFront bytes len first places at
   pub there : 0 < at
   pub fails : first_failing (record_tests bytes len places at) ≡ Some fault
 
 -- a map is needed, and the whole chain has none
 pub record HasNoMap (bytes : List ℕ) (len first : ℕ) (need_map : Bool) : Type 0 where
   pub places : List ℕ
-  pub whole : IsFront bytes len first places 0
+  pub whole : IsChainFront bytes len first places 0
   pub needed : need_map ≡ true
   pub none : first_of_kind bytes 1 places ≡ None
 

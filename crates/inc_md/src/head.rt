@@ -5,7 +5,7 @@ ghost use Rattle.inc_md.specs.Step.{least_size};
 ghost use Rattle.inc_md.specs.Record.{head_of, is_size, place_tests, head_tests, map_fields, sig_fields, status_fields};
 
 use crate::{ChainFault, MapRecord, SigRecord, StatusRecord};
-use inc_bytes::{get_u16, get_u32, get_u64};
+use inc_bytes::{u16_at, u32_at, u64_at};
 
 /// What every record begins with.
 pub const HEAD_SIZE: usize = 23;
@@ -33,27 +33,6 @@ pub struct Head {
     pub kind: u8,
     pub size: u16,
     pub next: u64,
-}
-
-fn u16_at(b: &[u8], at: usize) -> u16
-    requires { at + 2 ≤ length b.now }
-    ensures { result ≡ field 2 at b.now }
-{
-    get_u16(b, at).unwrap()
-}
-
-fn u32_at(b: &[u8], at: usize) -> u32
-    requires { at + 4 ≤ length b.now }
-    ensures { result ≡ field 4 at b.now }
-{
-    get_u32(b, at).unwrap()
-}
-
-fn u64_at(b: &[u8], at: usize) -> u64
-    requires { at + 8 ≤ length b.now }
-    ensures { result ≡ field 8 at b.now }
-{
-    get_u64(b, at).unwrap()
 }
 
 #[tactic(auto, unfolding(crate::specs::Record::head_of))]

@@ -3,7 +3,7 @@ ghost use Rattle.inc_bytes.specs.Tests.{first_failing};
 ghost use Rattle.inc_io.specs.Causes.{HasCause, HasCauseAt};
 ghost use Rattle.inc_md.specs.Record.{head_of, map_fields, sig_fields, status_fields};
 ghost use Rattle.inc_md.specs.Chain.{chain_of};
-ghost use Rattle.inc_md.specs.Outcome.{Gives, IsChain, HasFault};
+ghost use Rattle.inc_md.specs.Outcome.{GivesChain, IsChain, HasFault};
 ghost use Rattle.inc_md.specs.Step.{least_size, tests_after, with_fields, with_record, FailsBy};
 ghost use Rattle.inc_md.specs.declared.fault.ChainFault.TheVariants.{ReadFault as read_fault};
 
@@ -26,7 +26,7 @@ pub fn walk<B: Backing>(
 ) -> Result<Records, ChainFault>
     requires { IfSome (B.reads (B.kept file.old)) (λ bytes. len ≡ length bytes) }
     // The answer is a function of the file's bytes.
-    ensures answer { IfSome (B.reads (B.kept file.old)) (λ bytes. Gives result (chain_of bytes len first need_map)) }
+    ensures answer { IfSome (B.reads (B.kept file.old)) (λ bytes. GivesChain result (chain_of bytes len first need_map)) }
     ensures chain { IfSome (B.reads (B.kept file.old)) (λ bytes. IfOk result (λ records. IsChain bytes len first need_map records)) }
     ensures fault { IfSome (B.reads (B.kept file.old)) (λ bytes. IfErr result (λ fault. HasFault bytes len first need_map fault)) }
     ensures kept { B.kept file.new ≡ B.kept file.old }

@@ -1,28 +1,32 @@
 -- The definitions say what they mean: steps of one small file, and the same with one thing changed, which are none.
 --
 -- The file has five data blocks and one hash block. A digest is a short list here.
-use Rattle.std.proofs.Common.{◌≡◌, ℕ, ◌-◌, ◌^◌, true, false, List, [], ◌∷◌, Some, None, refl, arith, inl, inr}
+use Rattle.std.proofs.Common.{◌≡◌, ℕ, zero, suc, ◌-◌, true, false, List, [], ◌∷◌, ◌++◌, Some, None, refl, arith, inl, inr}
+use Rattle.inc_pending.specs.Times.{default_times}
 use Rattle.inc_pending.specs.declared.reads.ReadRow.{ReadRow}
-use Rattle.inc_model.specs.declared.event.Event.TheVariants.{Ask, Poll, Claim, PutData, PutPlace, Settle, Gate, Release, TakePending, Ranges, Count, Leave}
+use Rattle.inc_pending.specs.declared.timeouts.Times.{Times}
+use Rattle.inc_model.specs.declared.event.Event.TheVariants.{Ask, Poll, Claim, PutData, PutPlace, Settle, Gate, Release, TakePending, SetTimes, Ranges, Count, Leave}
 use Rattle.inc_model.specs.declared.event.Window.{Window}
 use Rattle.inc_model.specs.declared.file_state.FileState.{FileState}
 use Rattle.inc_model.specs.declared.file_state.FlightRow.{FlightRow}
 use Rattle.inc_model.specs.declared.file_state.Stage.{Stage}
 use Rattle.inc_model.specs.declared.file_state.Stage.TheVariants.{Written as written_stage, Placed as placed_stage, Settled as settled_stage, Gated as gated_stage}
-use Rattle.inc_model.specs.declared.reply.Reply.TheVariants.{OutOfRange, Asked, Stranger, NoPath, Handed, TimedOut, NotYet, Fault, Claimed, Busy, Present, Put, Settled, Gated, Released, Taken, BadRange, Filled, Counted, Left}
+use Rattle.inc_model.specs.declared.limits.TheConstants.{MOST_ENTRIES}
+use Rattle.inc_model.specs.declared.reply.Reply.TheVariants.{OutOfRange, Asked, Stranger, NoPath, Handed, TimedOut, NotYet, Fault, Claimed, Busy, Present, Put, Settled, Gated, Released, Taken, TimesFull, TimesSet, BadRange, Filled, Counted, Left}
 use Rattle.inc_tree.specs.Geometry.{levels, level_counts}
 use Rattle.inc_ranges.specs.Runs.{runs_from}
 use Rattle.inc_model.specs.Polling.{absent_hash, absent_from}
 use Rattle.inc_model.specs.Table.{reply_of, presence}
 use Rattle.inc_model.specs.Changes.{change}
 use Rattle.inc_model.specs.Step.{IsAllowed, Step}
+use Rattle.inc_model.specs.Facts.{MoreFacts}
 
 abbrev file : FileState
 file = record {
   id = [];
   n = 5;
   m = 1;
-  root = [];
+  root = None;
   map = [];
   damaged = [];
   compressed = [];
@@ -109,7 +113,7 @@ a_read_fault = record { allowed = record { own = tt; room = omega arith; fits = 
 claims : Step 7 true file 3 (Claim window 6) Claimed (record file { claimed = (window, 6) ∷ [] })
 claims = record { allowed = record { own = refl; room = omega arith; fits = refl }; after = refl }
 
-claims_more_than_there_is_room : IsAllowed (2 ^ 24 - 6) true file 3 (Claim window 6) Claimed → ⊥
+claims_more_than_there_is_room : IsAllowed (MOST_ENTRIES - 6) true file 3 (Claim window 6) Claimed → ⊥
 claims_more_than_there_is_room h = let room = h.room in absurd (omega arith)
 
 claims_for_another_seat : IsAllowed 7 true file 3 (Claim other_window 6) Claimed → ⊥
@@ -129,10 +133,10 @@ puts_another_block : IsAllowed 8 true claimed 3 (PutData window 4 nine) (Put 819
 puts_another_block h = let e : eight ≡ nine = h.fits in absurd (cc)
 
 -- a place that was claimed is there also where the history is full
-puts_at_the_end : IsAllowed (2 ^ 24 - 6) true claimed 3 (PutData window 4 nine) (Put 8192 nine)
+puts_at_the_end : IsAllowed (MOST_ENTRIES - 6) true claimed 3 (PutData window 4 nine) (Put 8192 nine)
 puts_at_the_end = record { own = refl; room = omega arith; fits = refl }
 
-asks_at_the_end : IsAllowed (2 ^ 24 - 6) true claimed 1 (Ask 4 7 1000) (Asked 1) → ⊥
+asks_at_the_end : IsAllowed (MOST_ENTRIES - 6) true claimed 1 (Ask 4 7 1000) (Asked 1) → ⊥
 asks_at_the_end h = let room = h.room in absurd (omega arith)
 
 fails_and_counts : Step 8 true claimed 3 (PutData window 4 nine) (Fault 1) (record file { claimed = (window, 5) ∷ []; faults = 1; failed = Some 8 })
@@ -187,7 +191,7 @@ releases = refl
 
 -- ---- loaders, the session, questions
 
-takes_the_first : reply_of three_wait 4 (TakePending 1 1) ≡ Taken (record { id = []; asked = 1000; block = 4; serial = 2 } ∷ []) 2
+takes_the_first : reply_of three_wait 4 (TakePending 1 1) ≡ Taken (record { id = []; asked = 1000; block = 4; serial = 2; uid = 7 } ∷ []) 2
 takes_the_first = refl
 
 tells_ranges : reply_of (record file { map = (0, []) ∷ (1, []) ∷ (3, []) ∷ (5, []) ∷ [] }) 4 (Ranges 0 6 2) ≡ Filled ((0, 2) ∷ (3, 4) ∷ []) 5 true
@@ -202,3 +206,29 @@ counts = refl
 
 leaves : Step 8 true file 1 Leave (Left 1) (record file { readers = 1 })
 leaves = record { allowed = record { own = tt; room = omega arith; fits = refl }; after = refl }
+
+-- so many users have times of their own
+abbrev with_times : ℕ → List (ℕ × Times)
+with_times zero = []
+with_times (suc count) = with_times count ++ (suc count, default_times) ∷ []
+
+abbrev all_taken : FileState
+all_taken = record file { times = with_times 256 }
+
+refuses_one_user_more : reply_of all_taken 0 (SetTimes 300 default_times) ≡ TimesFull
+refuses_one_user_more = refl
+
+sets_a_user_who_has_a_row : reply_of all_taken 0 (SetTimes 256 default_times) ≡ TimesSet
+sets_a_user_who_has_a_row = refl
+
+-- ---- states that no file reaches
+
+-- block 0 was open at the opening, so no gate write of it begins
+abbrev opened_file : FileState
+opened_file = record file { map = (0, nine) ∷ []; acknowledged = 0 ∷ [] }
+
+begun_though_opened : MoreFacts opened_file (record opened_file { begun = (0, eight) ∷ []; acknowledged = [] }) → ⊥
+begun_though_opened h = let e : true ≡ false = h.kept.fresh 0 refl in absurd (cc)
+
+open_and_damaged : MoreFacts opened_file (record opened_file { damaged = 0 ∷ [] }) → ⊥
+open_and_damaged h = let e : true ≡ false = (h.apart.open_sound 0 refl).0 in absurd (cc)

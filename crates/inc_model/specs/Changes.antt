@@ -11,13 +11,13 @@ use Rattle.inc_model.specs.declared.file_state.FileState.{FileState}
 use Rattle.inc_model.specs.declared.file_state.FlightRow.{FlightRow}
 use Rattle.inc_model.specs.declared.reply.Reply.{Reply}
 use Rattle.inc_model.specs.declared.reply.Reply.TheVariants.{Asked, NoPath, Handed, TimedOut, Fault, Cancelled, Claimed, Put, Placed, Settled, Gated, TimesSet, Left}
-use Rattle.inc_model.specs.State.{Claims, is_in, row_of, fly, land, claim, spend, unclaim}
-use Rattle.inc_model.specs.Stages.{written, placed, gated, settled, acknowledge}
+use Rattle.inc_model.specs.State.{Claims, is_in, flight_row, fly, land, claim, spend, unclaim}
+use Rattle.inc_model.specs.Stages.{written, placed, gated, synced_flight, acknowledge}
 
 -- ---- a device call that failed
 
-abbrev pub counted : ℕ → FileState → FileState
-counted count s = record s { faults = count }
+abbrev pub with_faults : ℕ → FileState → FileState
+with_faults count s = record s { faults = count }
 
 -- the first position counts
 abbrev pub first_failure : Option ℕ → ℕ → Option ℕ
@@ -30,8 +30,8 @@ broken_off at count s = record s { faults = count; failed = first_failure s.fail
 
 -- ---- reads
 
-abbrev pub asked : FileState → ℕ → ℕ → ℕ → ℕ → FileState
-asked s who block uid at = record s {
+abbrev pub with_read : FileState → ℕ → ℕ → ℕ → ℕ → FileState
+with_read s who block uid at = record s {
   reads = s.reads ++ asked_row s.next who block (is_in block s.map) uid at (times_of uid s.times) ∷ [];
   next = s.next + 1;
 }
@@ -40,14 +40,14 @@ abbrev pub without_read : ℕ → ℕ → FileState → FileState
 without_read who serial s = record s { reads = reads_but who serial s.reads }
 
 abbrev pub ask_change : FileState → ℕ → ℕ → ℕ → ℕ → Reply → FileState
-ask_change s who block uid at (Asked serial) = asked s who block uid at
+ask_change s who block uid at (Asked serial) = with_read s who block uid at
 ask_change s who block uid at reply = s
 
 abbrev pub poll_change : FileState → ℕ → ℕ → Reply → FileState
 poll_change s who serial (NoPath hash) = without_read who serial s
 poll_change s who serial (Handed digest) = without_read who serial s
 poll_change s who serial (TimedOut deadline) = without_read who serial s
-poll_change s who serial (Fault count) = counted count s
+poll_change s who serial (Fault count) = with_faults count s
 poll_change s who serial reply = s
 
 abbrev pub cancel_change : FileState → ℕ → ℕ → Reply → FileState
@@ -67,7 +67,7 @@ put_place_change at s index (Fault count) = broken_off at count s
 put_place_change at s index reply = s
 
 abbrev pub synced : FileState → FileState
-synced s = record s { flight = settled s.flight; acknowledged = acknowledge s.flight s.acknowledged }
+synced s = record s { flight = synced_flight s.flight; acknowledged = acknowledge s.flight s.acknowledged }
 
 abbrev pub settle_change : ℕ → FileState → Reply → FileState
 settle_change at s Settled = synced s
@@ -144,7 +144,7 @@ rest_change at s who (Claim window places) reply = s
 rest_change at s who (PutData window index digest) reply = put_data_change at s window index digest reply
 rest_change at s who (PutPlace window index) reply = put_place_change at s index reply
 rest_change at s who (Settle window) reply = settle_change at s reply
-rest_change at s who (Gate window index) reply = gate_change at s index (row_of index s.flight) reply
+rest_change at s who (Gate window index) reply = gate_change at s index (flight_row index s.flight) reply
 rest_change at s who (Release window) reply = release_change s window
 rest_change at s who (TakePending after most) reply = s
 rest_change at s who (SetTimes uid times) reply = times_change s uid times reply

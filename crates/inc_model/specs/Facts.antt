@@ -1,18 +1,18 @@
 -- What holds in every state that a legal history reaches from an opening.
-use Rattle.std.specs.Prelude.{◌≡◌, ◌⊎◌, ℕ, ◌+◌, ◌*◌, ◌^◌, ◌<◌, ◌≤◌, true, false, List, Option, Some, None, is_some, All}
-use Rattle.inc_tree.specs.Geometry.{hash_blocks}
+use Rattle.std.specs.Prelude.{◌≡◌, ◌⊎◌, ℕ, ◌+◌, ◌<◌, ◌≤◌, true, false, List, Option, Some, None, is_some, All}
+use Rattle.inc_tree.specs.Geometry.{shape_of, hash_blocks}
 use Rattle.inc_pending.specs.Keyed.{lookup, KeysRise}
 use Rattle.inc_pending.specs.Polling.{AreRising}
 use Rattle.inc_pending.specs.Times.{HoldsTimes}
 use Rattle.inc_pending.specs.declared.reads.ReadRow.{ReadRow}
 use Rattle.inc_pending.specs.declared.timeouts.Times.{Times}
+use Rattle.inc_model.specs.declared.limits.TheConstants.{FIRST_SERIALS, MOST_DATA_BLOCKS, MOST_ENTRIES}
 use Rattle.inc_model.specs.declared.file_state.FileState.{FileState}
 use Rattle.inc_model.specs.declared.file_state.FlightRow.{FlightRow}
 use Rattle.inc_model.specs.declared.file_state.Stage.{Stage}
 use Rattle.inc_model.specs.declared.file_state.Stage.TheVariants.{Written, Placed, Settled, Gated}
-use Rattle.inc_model.specs.State.{Digests, is_in, has, all_places, Rise, WindowsRise, FlightRises, IsSameFile}
+use Rattle.inc_model.specs.State.{Digests, is_in, has, all_places, Rise, WindowsRise, FlightRises, IsSameFile, AreSound, AreDisjoint}
 use Rattle.inc_model.specs.Stages.{is_gated}
-use Rattle.inc_model.specs.Step.{most_entries}
 
 -- a read is done exactly where its block is in the map; serials differ, and are below the next one
 pub record ReadFacts (digests : Digests) (reads : List ReadRow) (next : ℕ) : Type 0 where
@@ -39,7 +39,7 @@ pub record FlightFacts (digests : Digests) (damaged compressed : List ℕ) (flig
   pub once : FlightRises flight
   pub rows : All (RowFacts digests damaged compressed) flight
 
-pub record Facts (first s : FileState) : Type 0 where
+pub record FileFacts (first s : FileState) : Type 0 where
   pub read : ReadFacts s.map s.reads s.next
   pub opened : MapFacts first.map s.map s.begun s.acknowledged s.failed
   pub flying : FlightFacts s.map s.damaged s.compressed s.flight
@@ -78,19 +78,36 @@ pub record IndexFacts (n m : ℕ) (digests begun : Digests) (damaged compressed 
   pub acknowledged_within : All (λ index. index < n + m) acknowledged
   pub flight_within : All (λ row. row.index < n + m) flight
 
+-- `first` is the map of the opening
+pub record KeptFacts (first digests begun : Digests) (acknowledged : List ℕ) : Type 0 where
+  -- each index that was open at the opening is acknowledged
+  pub opened : (index : ℕ) → is_in index first ≡ true → has index acknowledged ≡ true
+  -- a gate write begins only of an index that wasn't open then
+  pub fresh : (index : ℕ) → is_in index begun ≡ true → is_in index first ≡ false
+  -- what is open since then has the digest with which its gate write began
+  pub same : (index : ℕ) (digest other : List ℕ) → lookup index begun ≡ Some digest → lookup index digests ≡ Some other → digest ≡ other
+
+-- an index is open or begun, or damaged, or compressed, and never two of these
+pub record ApartFacts (digests begun : Digests) (damaged compressed : List ℕ) : Type 0 where
+  pub open_sound : AreSound digests damaged compressed
+  pub begun_sound : AreSound begun damaged compressed
+  pub apart : AreDisjoint damaged compressed
+
 pub record MoreFacts (first s : FileState) : Type 0 where
   pub same : IsSameFile first s
   pub fills : All (FillFacts s.map s.begun s.acknowledged) s.flight
   pub lists : ListFacts s.map s.begun s.damaged s.compressed s.acknowledged s.times
   pub indices : IndexFacts s.n s.m s.map s.begun s.damaged s.compressed s.acknowledged s.reads s.flight
   pub claims : WindowsRise s.claimed
+  pub kept : KeptFacts first.map s.map s.begun s.acknowledged
+  pub apart : ApartFacts s.map s.begun s.damaged s.compressed
 
 -- ---- a state to begin from, whatever its map and its reads are
 
--- the numbers of data and hash blocks are those of one size within the limit of 2 ^ 30 bytes
+-- the numbers of data and hash blocks are those of one size within the limit, with a tree or with no hash block at all
 pub record IsShape (n m : ℕ) : Type 0 where
-  pub small : n ≤ 2 ^ 18
-  pub tree : m ≡ hash_blocks (4096 * n)
+  pub small : n ≤ MOST_DATA_BLOCKS
+  pub tree : m ≡ hash_blocks (shape_of n m)
 
 pub record IsStart (s : FileState) : Type 0 where
   pub shape : IsShape s.n s.m
@@ -100,5 +117,5 @@ pub record IsStart (s : FileState) : Type 0 where
   pub indices : IndexFacts s.n s.m s.map s.begun s.damaged s.compressed s.acknowledged s.reads s.flight
   pub rising : AreRising s.reads
   pub below : All (λ row. row.serial < s.next) s.reads
-  pub serials : s.next < 2 ^ 31
-  pub places : all_places s.claimed ≤ most_entries
+  pub serials : s.next < FIRST_SERIALS
+  pub places : all_places s.claimed ≤ MOST_ENTRIES

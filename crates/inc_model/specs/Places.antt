@@ -4,7 +4,7 @@ use Rattle.inc_pending.specs.Keyed.{insert}
 use Rattle.inc_model.specs.declared.event.Window.{Window}
 use Rattle.inc_model.specs.declared.file_state.FlightRow.{FlightRow}
 use Rattle.inc_model.specs.declared.file_state.Stage.{Stage}
-use Rattle.inc_model.specs.State.{Claims, add, claim, spend, fly}
+use Rattle.inc_model.specs.State.{Claims, with_index, claim, spend, fly}
 
 -- one more at a place
 abbrev pub with_at : {X : Type 0} → ℕ → X → List X → List X
@@ -21,7 +21,7 @@ module _ {V : Type 0} where
 
 pub record IsSlot (indices : List ℕ) (index at : ℕ) : Type 0 where
   pub within : at ≤ length indices
-  pub put : add index indices ≡ with_at at index indices
+  pub put : with_index index indices ≡ with_at at index indices
 
 pub record IsFlightSlot (flight : List FlightRow) (row : FlightRow) (at : ℕ) : Type 0 where
   pub within : at ≤ length flight

@@ -3,7 +3,7 @@ use Rattle.std.specs.Prelude.{◌≡◌, true, List, [], length, Option, Some, N
 use Rattle.inc_model.specs.declared.file_state.FileState.{FileState}
 use Rattle.inc_model.specs.declared.reply.Entry.{Entry}
 use Rattle.inc_model.specs.Step.{IsLegal, state_after}
-use Rattle.inc_model.specs.Held.{IsHeld}
+use Rattle.inc_model.specs.CoreFacts.{IsHeld}
 
 pub record Pure : Type 0 where
   pub first : FileState

@@ -1,11 +1,11 @@
 -- What a run over a list of entries does: it takes each that is a step, and ends before the first that is none.
-use Rattle.std.specs.Prelude.{◌≡◌, ℕ, ◌+◌, ◌≤◌, ◌^◌, Bool, true, false, List, [], ◌∷◌, ◌++◌, length, take, drop, map, replicate, None, All}
-use Rattle.inc_tree.specs.Geometry.{data_blocks, hash_blocks}
+use Rattle.std.specs.Prelude.{◌≡◌, ℕ, ◌+◌, ◌≤◌, Bool, true, false, List, [], ◌∷◌, ◌++◌, length, take, drop, replicate, Some, None, All}
+use Rattle.inc_tree.specs.Geometry.{tree_of, data_blocks, hash_blocks}
 use Rattle.inc_model.specs.declared.file_state.FileState.{FileState}
 use Rattle.inc_model.specs.declared.reply.Entry.{Entry}
 use Rattle.inc_model.specs.declared.world.Round.{Round}
+use Rattle.inc_model.specs.declared.world.TheConstants.{FRESH_SIZE, FRESH_READERS}
 use Rattle.inc_model.specs.Step.{IsEntry, IsLegal, after_entry, state_after}
-use Rattle.inc_model.specs.Worlds.{Move, Does}
 
 pub record RunsTo (at : ℕ) (start : FileState) (entries : List Entry) (done : ℕ) (end : FileState) : Type 0 where
   pub within : done ≤ length entries
@@ -16,19 +16,19 @@ pub record RunsTo (at : ℕ) (start : FileState) (entries : List Entry) (done : 
   pub stops : (entry : Entry) (rest : List Entry) → drop done entries ≡ entry ∷ rest → IsEntry (at + done) true end entry → ⊥
 
 -- one entry, taken or not
-abbrev pub Takes : ℕ → FileState → Entry → Bool → FileState → Type 0
-Takes at old entry true new = IsEntry at true old entry × (new ≡ after_entry at old entry)
-Takes at old entry false new = (IsEntry at true old entry → ⊥) × (new ≡ old)
+abbrev pub TakesEntry : ℕ → FileState → Entry → Bool → FileState → Type 0
+TakesEntry at old entry true new = IsEntry at true old entry × (new ≡ after_entry at old entry)
+TakesEntry at old entry false new = (IsEntry at true old entry → ⊥) × (new ≡ old)
 
 -- ---- rounds
 
--- a fresh file of the greatest size, with 64 readers
+-- a fresh file
 unfoldable pub fresh_state : FileState
 fresh_state = record {
   id = replicate 16 0;
-  n = data_blocks (2 ^ 30);
-  m = hash_blocks (2 ^ 30);
-  root = replicate 32 0;
+  n = data_blocks (tree_of FRESH_SIZE);
+  m = hash_blocks (tree_of FRESH_SIZE);
+  root = Some (replicate 32 0);
   map = [];
   damaged = [];
   compressed = [];
@@ -41,7 +41,7 @@ fresh_state = record {
   acknowledged = [];
   faults = 0;
   failed = None;
-  readers = 64;
+  readers = FRESH_READERS;
 }
 
 abbrev pub all_entries : List Round → List Entry
@@ -50,7 +50,3 @@ all_entries (round ∷ rounds) = round.entries ++ all_entries rounds
 
 abbrev pub HaveNoCrash : List Round → Type 0
 HaveNoCrash rounds = All (λ round. round.crash ≡ false) rounds
-
--- the entries of a run without a crash, as the moves of a run with crashes
-abbrev pub moves_of : List Entry → List Move
-moves_of entries = map (λ entry. Does entry) entries

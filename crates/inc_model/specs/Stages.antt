@@ -5,7 +5,7 @@ use Rattle.inc_model.specs.declared.event.Window.{Window}
 use Rattle.inc_model.specs.declared.file_state.Stage.{Stage}
 use Rattle.inc_model.specs.declared.file_state.Stage.TheVariants.{Written, Placed, Settled, Gated}
 use Rattle.inc_model.specs.declared.file_state.FlightRow.{FlightRow}
-use Rattle.inc_model.specs.State.{is_same, add}
+use Rattle.inc_model.specs.State.{is_same, with_index}
 
 abbrev pub is_written : Stage → Bool
 is_written Written = true
@@ -39,8 +39,8 @@ abbrev pub settled_stage : Stage → Stage
 settled_stage Placed = Settled
 settled_stage stage = stage
 
-abbrev pub settled_row : FlightRow → FlightRow
-settled_row row = record row { stage = settled_stage row.stage }
+abbrev pub synced_row : FlightRow → FlightRow
+synced_row row = record row { stage = settled_stage row.stage }
 
 -- ---- all rows
 
@@ -51,10 +51,10 @@ abbrev pub gated : ℕ → List FlightRow → List FlightRow
 gated index flight = map (gated_row index) flight
 
 -- after a sync: what is gated leaves the flight, what is placed is settled
-abbrev pub settled : List FlightRow → List FlightRow
-settled flight = map settled_row (filter (λ row. not (is_gated row.stage)) flight)
+abbrev pub synced_flight : List FlightRow → List FlightRow
+synced_flight flight = map synced_row (filter (λ row. not (is_gated row.stage)) flight)
 
 -- what is gated is acknowledged
 abbrev pub acknowledge : List FlightRow → List ℕ → List ℕ
 acknowledge [] indices = indices
-acknowledge (row ∷ rows) indices = acknowledge rows (if is_gated row.stage then add row.index indices else indices)
+acknowledge (row ∷ rows) indices = acknowledge rows (if is_gated row.stage then with_index row.index indices else indices)

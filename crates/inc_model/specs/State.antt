@@ -21,9 +21,9 @@ has index [] = false
 has index (first ∷ rest) = (index == first) || has index rest
 
 -- the set with this index, still rising
-abbrev pub add : ℕ → List ℕ → List ℕ
-add index [] = index ∷ []
-add index (first ∷ rest) = if nat_lt index first then index ∷ first ∷ rest else if index == first then first ∷ rest else first ∷ add index rest
+abbrev pub with_index : ℕ → List ℕ → List ℕ
+with_index index [] = index ∷ []
+with_index index (first ∷ rest) = if nat_lt index first then index ∷ first ∷ rest else if index == first then first ∷ rest else first ∷ with_index index rest
 
 abbrev pub Rise : List ℕ → Type 0
 Rise indices = AllPairs (λ (earlier later : ℕ). earlier < later) indices
@@ -41,9 +41,9 @@ abbrev pub Claims : Type 0
 Claims = List (Window × ℕ)
 
 -- the places that a window has left
-abbrev pub places_of : Window → Claims → ℕ
-places_of window [] = 0
-places_of window (row ∷ rows) = if is_same window row.0 then row.1 else places_of window rows
+abbrev pub places_left : Window → Claims → ℕ
+places_left window [] = 0
+places_left window (row ∷ rows) = if is_same window row.0 then row.1 else places_left window rows
 
 -- the places of all windows
 abbrev pub all_places : Claims → ℕ
@@ -68,8 +68,8 @@ WindowsRise claimed = AllPairs (λ earlier later. is_before earlier.0 later.0 �
 
 -- ---- indices in flight
 
-abbrev pub row_of : ℕ → List FlightRow → Option FlightRow
-row_of index flight = find (λ row. row.index == index) flight
+abbrev pub flight_row : ℕ → List FlightRow → Option FlightRow
+flight_row index flight = find (λ row. row.index == index) flight
 
 -- one more row, by rising index
 abbrev pub fly : FlightRow → List FlightRow → List FlightRow
@@ -88,8 +88,16 @@ FlightRises flight = AllPairs (λ earlier later. earlier.index < later.index) fl
 abbrev pub IsSameFile : FileState → FileState → Type 0
 IsSameFile a b = (b.id ≡ a.id) × (b.n ≡ a.n) × (b.m ≡ a.m) × (b.root ≡ a.root) × (b.damaged ≡ a.damaged) × (b.compressed ≡ a.compressed)
 
-abbrev pub indices_of : Digests → List ℕ
-indices_of digests = map (λ row. row.0) digests
+abbrev pub keys_of : Digests → List ℕ
+keys_of digests = map (λ row. row.0) digests
+
+-- each index with a digest is neither damaged nor compressed
+abbrev pub AreSound : Digests → List ℕ → List ℕ → Type 0
+AreSound digests damaged compressed = (index : ℕ) → is_in index digests ≡ true → (has index damaged ≡ false) × (has index compressed ≡ false)
+
+-- no index is damaged and compressed
+abbrev pub AreDisjoint : List ℕ → List ℕ → Type 0
+AreDisjoint damaged compressed = (index : ℕ) → has index damaged ≡ true → has index compressed ≡ false
 
 -- Every open index is acknowledged, since the file was opened from what a sync or a crash left. Nothing has been asked yet.
 pub record IsOpening (s : FileState) : Type 0 where
@@ -99,7 +107,9 @@ pub record IsOpening (s : FileState) : Type 0 where
   pub damaged_within : All (λ index. index < s.n + s.m) s.damaged
   pub compressed_rises : Rise s.compressed
   pub compressed_within : All (λ index. index < s.n + s.m) s.compressed
-  pub acknowledged : s.acknowledged ≡ indices_of s.map
+  pub sound : AreSound s.map s.damaged s.compressed
+  pub apart : AreDisjoint s.damaged s.compressed
+  pub acknowledged : s.acknowledged ≡ keys_of s.map
   pub next : s.next ≡ 1
   pub no_reads : s.reads ≡ []
   pub no_times : s.times ≡ []

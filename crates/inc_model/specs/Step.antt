@@ -6,10 +6,11 @@ use Rattle.inc_model.specs.declared.event.Event.{Event}
 use Rattle.inc_model.specs.declared.event.Event.TheVariants.{Claim}
 use Rattle.inc_model.specs.declared.event.Window.{Window}
 use Rattle.inc_model.specs.declared.file_state.FileState.{FileState}
+use Rattle.inc_model.specs.declared.limits.TheConstants.{MOST_ENTRIES}
 use Rattle.inc_model.specs.declared.reply.Entry.{Entry}
 use Rattle.inc_model.specs.declared.reply.Reply.{Reply}
 use Rattle.inc_model.specs.declared.reply.Reply.TheVariants.{Handed, NotYet, Fault, Put, Placed, Settled, Gated}
-use Rattle.inc_model.specs.State.{Claims, places_of, all_places}
+use Rattle.inc_model.specs.State.{Claims, places_left, all_places}
 use Rattle.inc_model.specs.Table.{reply_of}
 use Rattle.inc_model.specs.Changes.{window_of, change}
 
@@ -21,21 +22,17 @@ IsOwn who (Some window) = window.who ≡ who
 
 -- ---- room in the history
 
--- the most entries and claimed places of one history
-abbrev pub most_entries : ℕ
-most_entries = 2 ^ 24
-
 -- an event of a window that has places left needs no other
 abbrev pub needs_beside : Claims → Option Window → ℕ
 needs_beside claimed None = 1
-needs_beside claimed (Some window) = if places_of window claimed == 0 then 1 else 0
+needs_beside claimed (Some window) = if places_left window claimed == 0 then 1 else 0
 
 abbrev pub needs : Claims → Event → ℕ
 needs claimed (Claim window places) = 1 + places
 needs claimed event = needs_beside claimed (window_of event)
 
 abbrev pub HasRoom : ℕ → FileState → Event → Type 0
-HasRoom at s event = at + all_places s.claimed + needs s.claimed event ≤ most_entries
+HasRoom at s event = at + all_places s.claimed + needs s.claimed event ≤ MOST_ENTRIES
 
 -- ---- which replies are right
 

@@ -5,6 +5,7 @@
 use Rattle.std.specs.Prelude.{ℕ, zero, suc, ◌+◌, ◌-◌, Bool, true, false, not, ◌&&◌, ◌||◌, List, [], ◌∷◌, ◌++◌, map, take, drop, filter, length, count_by, Option, Some, None, ◌==◌, nat_lt, nat_le, if◌then◌else◌}
 use Rattle.inc_pending.specs.Polling.{read_of, waits_on, is_pending_after, record_of}
 use Rattle.inc_pending.specs.declared.reads.ReadRow.{ReadRow}
+use Rattle.inc_pending.specs.declared.timeouts.TheConstants.{MOST_ROWS}
 use Rattle.inc_ranges.specs.Runs.{runs_of, start_or}
 use Rattle.inc_model.specs.declared.event.Event.{Event}
 use Rattle.inc_model.specs.declared.event.Event.TheVariants.{Ask, Poll, Cancel, Claim, PutData, PutPlace, Settle, Gate, Release, TakePending, SetTimes, Ranges, Count, Leave}
@@ -12,7 +13,7 @@ use Rattle.inc_model.specs.declared.file_state.FileState.{FileState}
 use Rattle.inc_model.specs.declared.file_state.FlightRow.{FlightRow}
 use Rattle.inc_model.specs.declared.reply.Reply.{Reply}
 use Rattle.inc_model.specs.declared.reply.Reply.TheVariants.{OutOfRange, Damaged, Compressed, Asked, Stranger, Cancelled, Failed, Claimed, Busy, Present, Put, Placed, Settled, Gated, Released, Taken, TimesFull, TimesSet, BadRange, Filled, Counted, Left}
-use Rattle.inc_model.specs.State.{Digests, is_in, has, row_of}
+use Rattle.inc_model.specs.State.{Digests, is_in, has, flight_row}
 use Rattle.inc_model.specs.Stages.{is_at, is_written, is_settled}
 use Rattle.inc_model.specs.Polling.{poll_reply}
 
@@ -56,7 +57,7 @@ gate_reply mine waiting = if mine then Gated waiting else Stranger
 abbrev pub take_reply : FileState → ℕ → ℕ → Reply
 take_reply s after most = Taken (map (record_of s.id) (take most (filter (is_pending_after after) s.reads))) s.readers
 
--- 256 users have rows, and this one has none
+-- all rows are taken, and this user has none
 abbrev pub times_reply : Bool → Bool → Reply
 times_reply full known = if full && not known then TimesFull else TimesSet
 
@@ -77,6 +78,23 @@ ranges_reply digests count start end room =
 abbrev pub count_reply : Digests → ℕ → Reply
 count_reply digests n = Counted (count_by (λ row. nat_lt row.0 n) digests) (count_by (λ row. nat_le n row.0) digests)
 
+-- the events whose replies own a list, and so take memory
+abbrev pub has_list : Event → Bool
+has_list (TakePending after most) = true
+has_list (Ranges start end room) = true
+has_list (Ask block uid at) = false
+has_list (Poll serial at) = false
+has_list (Cancel serial) = false
+has_list (Claim window places) = false
+has_list (PutData window index digest) = false
+has_list (PutPlace window index) = false
+has_list (Settle window) = false
+has_list (Gate window index) = false
+has_list (Release window) = false
+has_list (SetTimes uid times) = false
+has_list Count = false
+has_list Leave = false
+
 -- ---- the table
 
 abbrev pub reply_of : FileState → ℕ → Event → Reply
@@ -85,13 +103,13 @@ reply_of s who (Poll serial at) = poll_reply s who serial at
 reply_of s who (Cancel serial) = cancel_reply (read_of who serial s.reads)
 reply_of s who (Claim window places) = unless_failed s.failed Claimed
 reply_of s who (PutData window index digest) =
-    unless_failed s.failed (put_reply (nat_le (s.n + s.m) index) (has index s.damaged) (has index s.compressed) (flight_reply (row_of index s.flight) (is_in index s.map) digest))
-reply_of s who (PutPlace window index) = unless_failed s.failed (place_reply (is_at is_written window (row_of index s.flight)))
+    unless_failed s.failed (put_reply (nat_le (s.n + s.m) index) (has index s.damaged) (has index s.compressed) (flight_reply (flight_row index s.flight) (is_in index s.map) digest))
+reply_of s who (PutPlace window index) = unless_failed s.failed (place_reply (is_at is_written window (flight_row index s.flight)))
 reply_of s who (Settle window) = unless_failed s.failed Settled
-reply_of s who (Gate window index) = unless_failed s.failed (gate_reply (is_at is_settled window (row_of index s.flight)) (count_by (waits_on index) s.reads))
+reply_of s who (Gate window index) = unless_failed s.failed (gate_reply (is_at is_settled window (flight_row index s.flight)) (count_by (waits_on index) s.reads))
 reply_of s who (Release window) = Released
 reply_of s who (TakePending after most) = take_reply s after most
-reply_of s who (SetTimes uid times) = times_reply (length s.times == 256) (is_in uid s.times)
+reply_of s who (SetTimes uid times) = times_reply (length s.times == MOST_ROWS) (is_in uid s.times)
 reply_of s who (Ranges start end room) = ranges_reply s.map (s.n + s.m) start end room
 reply_of s who Count = count_reply s.map s.n
 reply_of s who Leave = Left (s.readers - 1)

@@ -1,9 +1,9 @@
 // The places of the history that windows have claimed, by rising window.
 ghost use Rattle.std.specs.Prelude.{◌≡◌, ◌+◌, ◌^◌, ◌<◌, ◌≤◌, IfOk, IfErr, IfSome, IfNone, vec_len, vec_capacity};
-ghost use Rattle.inc_model.specs.State.{is_same, is_before, places_of, all_places, claim, spend, unclaim};
+ghost use Rattle.inc_model.specs.State.{is_same, is_before, places_left, all_places, claim, spend, unclaim};
 ghost use Rattle.inc_model.specs.Places.{IsClaimAt, IsClaimSlot, IsWindowAt};
 
-use crate::Window;
+use crate::{MOST_ENTRIES, Window};
 
 pub fn is_same_window(a: Window, b: Window) -> bool
     ensures value { result ≡ is_same a b }
@@ -20,7 +20,7 @@ fn comes_before(a: Window, b: Window) -> bool
 
 /// The places that a window has left.
 pub fn places_left(claimed: &[(Window, u32)], window: Window) -> u32
-    ensures value { result ≡ places_of window claimed.now }
+    ensures value { result ≡ places_left window claimed.now }
 {
     for row in claimed {
         if is_same_window(window, row.0) {
@@ -32,7 +32,7 @@ pub fn places_left(claimed: &[(Window, u32)], window: Window) -> u32
 
 /// The places of all windows.
 pub fn sum_of_places(claimed: &[(Window, u32)]) -> u64
-    requires few { all_places claimed.now ≤ 2 ^ 24 }
+    requires few { all_places claimed.now ≤ MOST_ENTRIES }
     ensures value { result ≡ all_places claimed.now }
 {
     let mut sum = 0;
@@ -61,7 +61,7 @@ fn place_of(claimed: &[(Window, u32)], window: Window) -> Result<usize, usize>
 /// Gives a window so many places more. There is room for one more row, so it takes no memory.
 pub fn claim_in_room(claimed: &mut Vec<(Window, u32)>, window: Window, places: u32)
     requires room { vec_len claimed.old < vec_capacity claimed.old }
-    requires few { all_places claimed.old.items + places ≤ 2 ^ 24 }
+    requires few { all_places claimed.old.items + places ≤ MOST_ENTRIES }
     ensures claims { claimed.new.items ≡ claim window places claimed.old.items }
 {
     match place_of(claimed.as_slice(), window) {

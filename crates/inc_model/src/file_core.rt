@@ -4,12 +4,15 @@ ghost use Rattle.inc_pending.specs.Keyed.{insert};
 ghost use Rattle.inc_pending.specs.Polling.{AreRising};
 ghost use Rattle.inc_model.specs.State.{all_places, fly, land, claim, spend, unclaim};
 ghost use Rattle.inc_model.specs.Stages.{written, placed};
-ghost use Rattle.inc_model.specs.Changes.{asked, without_read, broken_off, synced, begins, opens, counted};
+ghost use Rattle.inc_model.specs.Changes.{with_read, without_read, broken_off, synced, begins, opens, with_faults};
 
 use crate::claims::{claim_in_room, drop_claim, use_place};
 use crate::flight::{acknowledge_rows, fly_in_room, land_window, settle_rows, stage_to};
-use crate::keyed::{digest_at, put_in_room, times_at};
-use crate::{Digest32, FileState, FlightRow, Id, OutOfMemory, ReadRow, Rows, Stage, Times, Window};
+use crate::keyed::{kept_digest, put_in_room, times_at};
+use crate::{
+    Digest32, FileState, FlightRow, Id, MOST_ENTRIES, OutOfMemory, ReadRow, Rows, Stage, Times,
+    Window,
+};
 use inc_pending::{DEFAULT_TIMES, asked_read, drop_read, mark_reads};
 use std::marker::Model;
 
@@ -18,7 +21,7 @@ pub struct FileCore {
     pub id: Id,
     pub n: u32,
     pub m: u32,
-    pub root: Digest32,
+    pub root: Option<Digest32>,
     pub map: Vec<(u32, Digest32)>,
     pub damaged: Vec<u32>,
     pub compressed: Vec<u32>,
@@ -151,7 +154,7 @@ impl FileCore {
 
     /// The device's count of faults, as a call that failed told it.
     pub fn count_faults(&mut self, count: u64)
-        ensures state { self.new ≡ counted count self.old }
+        ensures state { self.new ≡ with_faults count self.old }
     {
         self.faults = count;
     }
@@ -169,10 +172,10 @@ impl FileCore {
     /// Adds a read.
     pub fn ask(&mut self, who: u32, block: u32, uid: u32, now: u64) -> Result<(), OutOfMemory>
         requires serials { self.old.next + 1 < 2 ^ 32 }
-        ensures ok { OnOk result (self.new ≡ asked self.old who block uid now) }
+        ensures ok { OnOk result (self.new ≡ with_read self.old who block uid now) }
         ensures err { OnErr result (self.new ≡ self.old) }
     {
-        let present = digest_at(self.map.as_slice(), block).is_some();
+        let present = kept_digest(self.map.as_slice(), block).is_some();
         let times = times_at(self.times.as_slice(), uid).unwrap_or(DEFAULT_TIMES);
         self.reads.push(asked_read(self.next, who, block, present, uid, now, times))?;
         self.next += 1;
@@ -269,7 +272,7 @@ impl FileCore {
 
     /// Gives a window so many places more.
     pub fn claim(&mut self, window: Window, places: u32) -> Result<(), OutOfMemory>
-        requires few { all_places self.old.claimed + places ≤ 2 ^ 24 }
+        requires few { all_places self.old.claimed + places ≤ MOST_ENTRIES }
         ensures ok { OnOk result (self.new ≡ record self.old { claimed = claim window places self.old.claimed }) }
         ensures err { OnErr result (self.new ≡ self.old) }
     {

@@ -33,9 +33,10 @@ pub struct FileState {
     pub id: Id,
     /// The file's data blocks.
     pub n: u32,
-    /// The file's hash blocks.
+    /// The file's hash blocks: none where it has no tree.
     pub m: u32,
-    pub root: Digest32,
+    /// Of a file with a signature.
+    pub root: Option<Digest32>,
     /// The open indices, each with the digest of its block.
     pub map: Rows<(u32, Digest32)>,
     pub damaged: Rows<u32>,

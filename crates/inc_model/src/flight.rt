@@ -1,7 +1,7 @@
 // The indices that windows are filling, by rising index.
 ghost use Rattle.std.specs.Prelude.{◌≡◌, ◌+◌, ◌<◌, ◌≤◌, not, map, filter, length, vec_len, vec_capacity};
-ghost use Rattle.inc_model.specs.State.{row_of, fly, land};
-ghost use Rattle.inc_model.specs.Stages.{is_gated, settled_row, settled, acknowledge};
+ghost use Rattle.inc_model.specs.State.{flight_row, fly, land};
+ghost use Rattle.inc_model.specs.Stages.{is_gated, synced_row, synced_flight, acknowledge};
 ghost use Rattle.inc_model.specs.Places.{IsFlightSlot, staged};
 
 use crate::claims::is_same_window;
@@ -10,7 +10,7 @@ use crate::{FlightRow, Stage, Window};
 
 /// The row of an index.
 pub fn find_row(flight: &[FlightRow], index: u32) -> Option<FlightRow>
-    ensures value { result ≡ row_of index flight.now }
+    ensures value { result ≡ flight_row index flight.now }
 {
     for row in flight {
         if row.index == index {
@@ -72,7 +72,7 @@ fn is_row_gated(row: &FlightRow) -> bool
 }
 
 fn settle_row(row: &mut FlightRow)
-    ensures row { row.new ≡ settled_row row.old }
+    ensures row { row.new ≡ synced_row row.old }
 {
     if matches!(row.stage, Stage::Placed) {
         row.stage = Stage::Settled;
@@ -80,7 +80,7 @@ fn settle_row(row: &mut FlightRow)
 }
 
 fn settle_each(flight: &mut Vec<FlightRow>)
-    ensures rows { flight.new.items ≡ map settled_row flight.old.items }
+    ensures rows { flight.new.items ≡ map synced_row flight.old.items }
 {
     for row in flight.iter_mut() {
         settle_row(row);
@@ -95,7 +95,7 @@ fn land_gated(flight: &mut Vec<FlightRow>)
 
 /// After a sync what is gated leaves, and what is placed is settled.
 pub fn settle_rows(flight: &mut Vec<FlightRow>)
-    ensures rows { flight.new.items ≡ settled flight.old.items }
+    ensures rows { flight.new.items ≡ synced_flight flight.old.items }
 {
     land_gated(flight);
     settle_each(flight);

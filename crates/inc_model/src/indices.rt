@@ -1,9 +1,9 @@
 // Sets of indices, as rising lists.
 ghost use Rattle.std.specs.Prelude.{◌≡◌, ◌+◌, ◌<◌, ◌≤◌, IfSome, IfNone, vec_len, vec_capacity};
-ghost use Rattle.inc_model.specs.State.{has, add};
+ghost use Rattle.inc_model.specs.State.{has, with_index};
 ghost use Rattle.inc_model.specs.Places.{IsSlot};
 
-pub fn has_index(indices: &[u32], index: u32) -> bool
+pub fn holds_index(indices: &[u32], index: u32) -> bool
     ensures value { result ≡ has index indices.now }
 {
     for other in indices {
@@ -17,7 +17,7 @@ pub fn has_index(indices: &[u32], index: u32) -> bool
 /// The place that an index would have, if it isn't there.
 fn slot_of(indices: &[u32], index: u32) -> Option<usize>
     ensures slot { IfSome result (λ at. IsSlot indices.now index at) }
-    ensures there { IfNone result (add index indices.now ≡ indices.now) }
+    ensures there { IfNone result (with_index index indices.now ≡ indices.now) }
 {
     for (i, other) in indices.iter().enumerate() {
         if index < *other {
@@ -33,7 +33,7 @@ fn slot_of(indices: &[u32], index: u32) -> Option<usize>
 /// Adds an index. There is room for one more, so it takes no memory.
 pub fn add_in_room(indices: &mut Vec<u32>, index: u32)
     requires room { vec_len indices.old < vec_capacity indices.old }
-    ensures set { indices.new.items ≡ add index indices.old.items }
+    ensures set { indices.new.items ≡ with_index index indices.old.items }
     ensures bound { vec_len indices.new ≤ vec_len indices.old + 1 }
     ensures capacity { vec_capacity indices.new ≡ vec_capacity indices.old }
 {

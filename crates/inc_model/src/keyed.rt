@@ -7,7 +7,7 @@ use crate::Digest32;
 use inc_pending::Times;
 
 /// The digest of an index.
-pub fn digest_at(rows: &[(u32, Digest32)], index: u32) -> Option<Digest32>
+pub fn kept_digest(rows: &[(u32, Digest32)], index: u32) -> Option<Digest32>
     ensures value { result ≡ lookup index rows.now }
 {
     for row in rows {

@@ -1,7 +1,12 @@
 // What holds of every legal history and of every run with crashes, as contracts of functions that do nothing.
-ghost use Rattle.inc_model.specs.Advance.{AdvancesByStages, LeavesFlightOnly, AcknowledgesOnlySynced, OpensOnlyByGate, BeginsOnlyByGate, GateBegins, FaultsAreSeen, FaultsStay, FailsForGood, ReadsStay};
-ghost use Rattle.inc_model.specs.Histories.{OpeningHasFacts, StepKeepsFacts, StepKeepsMore, LegalHasFacts, FrontIsLegal, RestIsLegal, BothAreLegal, StateAfterBoth, StateAfterOneMore, EntryAtPosition, StaysWithinLimit, ClaimedHasRoom, ClaimsAreCounted, ClaimsOfOthersStay, WindowsAreOwn, OwnEntriesJoin, OthersKeepOwn};
-ghost use Rattle.inc_model.specs.Meaning.{TimesOutWhereAbsent, WaitsWhereAbsent, WaitsBeforeFloor, NamesLowestAbsent, HandsOutPresent, KeepsAcknowledged, AcknowledgedIsThere, TimesOutAbsent, HandsOutThere, NamesAbsent, GateCompletes, DigestsComeFrom, PresenceIsWhole, PresenceIsOfMap};
+ghost use Rattle.inc_model.specs.StageLaws.{AdvancesByStages, LeavesFlightOnly, SettlesAll, MapStays, AcknowledgesOnlySynced, OpensOnlyByGate, BeginsOnlyByGate, GateBegins, FaultsAreSeen, FaultsStay, FailsForGood, ReadsStay};
+ghost use Rattle.inc_model.specs.FaultLaws.{FailedIsFirst, FirstIsFailed, NoneHasFailed, PollLeavesFailed, FaultsAreCounted};
+ghost use Rattle.inc_model.specs.OthersLaws.{OthersKeepReads, OthersKeepPlaces, OthersKeepRows, OwnPutIsPlaced};
+ghost use Rattle.inc_model.specs.Openings.{OpenedListsMakeOpenings, AcknowledgedAreLookedUp, OpenedAreAcknowledged, SameIndicesAreEqual, SameRowsAreEqual, ReopensByLists};
+ghost use Rattle.inc_model.specs.Worlds.{HistoryIsWorld, WorldIsHistory, WorldEndsAsHistory};
+ghost use Rattle.inc_model.specs.ReadLaws.{ReadsComeFrom, ReadsWereAsked};
+ghost use Rattle.inc_model.specs.HistoryLaws.{OpeningHasFacts, StepKeepsFacts, StepKeepsMore, LegalHasFacts, FrontIsLegal, RestIsLegal, BothAreLegal, StateAfterBoth, StateAfterOneMore, EntryAtPosition, StaysWithinLimit, ClaimedHasRoom, ClaimsAreCounted, ClaimsOfOthersStay, WindowsAreOwn, OwnEntriesJoin, OthersKeepOwn};
+ghost use Rattle.inc_model.specs.WorldLaws.{TimesOutWhereAbsent, WaitsWhereAbsent, WaitsBeforeFloor, NamesLowestAbsent, HandsOutPresent, LacksNoPathWithoutTree, KeepsAcknowledged, AcknowledgedIsThere, TimesOutAbsent, HandsOutThere, NamesAbsent, GateCompletes, DigestsComeFrom, PresenceIsWhole, PresenceIsOfMap};
 
 /// An opening has the facts, and each step keeps them. So each state that a legal history reaches has them.
 pub fn facts_stay()
@@ -36,6 +41,36 @@ pub fn entries_are_owned()
     ensures kept { OthersKeepOwn }
 {}
 
+/// Each read that waits was asked by an entry of the history, and got its floor and deadline by its user's times then.
+pub fn reads_were_asked()
+    ensures asked { ReadsWereAsked }
+{}
+
+/// What the entries of other seats leave of a seat's own.
+pub fn others_keep_own()
+    ensures reads { OthersKeepReads }
+    ensures places { OthersKeepPlaces }
+    ensures rows { OthersKeepRows }
+    ensures placed { OwnPutIsPlaced }
+{}
+
+/// A history is a run without a crash, both ways: so what holds of runs holds of what a legal history reaches from an opening.
+pub fn histories_are_worlds()
+    ensures world { HistoryIsWorld }
+    ensures history { WorldIsHistory }
+    ensures end { WorldEndsAsHistory }
+{}
+
+/// Openings and reopenings, told by the lists that a device holds.
+pub fn openings_are_lists()
+    ensures made { OpenedListsMakeOpenings }
+    ensures found { AcknowledgedAreLookedUp }
+    ensures opened { OpenedAreAcknowledged }
+    ensures indices { SameIndicesAreEqual }
+    ensures rows { SameRowsAreEqual }
+    ensures reopened { ReopensByLists }
+{}
+
 /// What a poll answers, by what is in the map.
 pub fn polls_go_by_the_map()
     ensures late { TimesOutWhereAbsent }
@@ -43,6 +78,7 @@ pub fn polls_go_by_the_map()
     ensures floor { WaitsBeforeFloor }
     ensures path { NamesLowestAbsent }
     ensures handed { HandsOutPresent }
+    ensures no_tree { LacksNoPathWithoutTree }
 {}
 
 /// What every run with crashes keeps, and what its entries say of the state that they met.
@@ -60,6 +96,8 @@ pub fn worlds_keep()
 pub fn fills_go_by_stages()
     ensures stages { AdvancesByStages }
     ensures leaves { LeavesFlightOnly }
+    ensures syncs { SettlesAll }
+    ensures map { MapStays }
     ensures acknowledged { AcknowledgesOnlySynced }
     ensures opened { OpensOnlyByGate }
     ensures begun { BeginsOnlyByGate }
@@ -69,9 +107,19 @@ pub fn fills_go_by_stages()
     ensures failed { FailsForGood }
 {}
 
+/// The first write or sync that failed ends the fills, and the count of faults is at least that of the faults.
+pub fn faults_are_told()
+    ensures first { FailedIsFirst }
+    ensures named { FirstIsFailed }
+    ensures none { NoneHasFailed }
+    ensures polls { PollLeavesFailed }
+    ensures counted { FaultsAreCounted }
+{}
+
 /// A read ends by its own asker's poll or cancel alone.
 pub fn reads_stay()
     ensures reads { ReadsStay }
+    ensures come { ReadsComeFrom }
 {}
 
 /// The list from which ranges are told is the map's.

@@ -5,41 +5,54 @@
 //! a thread or a clock: those bring their counts of faults, their order and their numbers in as arguments of events and replies.
 #![tactic(auto)]
 
-mod answers;
-mod applying;
-mod claims;
-mod copies;
-mod deciding;
-mod entries;
+// The words of the relation.
 mod event;
-mod file_core;
 mod file_state;
+mod limits;
+mod outcomes;
+mod reply;
+mod rows;
+
+// What holds of every history.
+mod laws;
+mod machine;
+
+// The lists of a state.
+mod claims;
 mod flight;
 mod indices;
 mod keyed;
-mod laws;
-mod machine;
-mod pure_file;
-mod replies;
-mod reply;
-mod rows;
+
+// The executed relation.
+mod copies;
+mod file_core;
+mod legality;
+mod reply_table;
+mod state_changes;
+
+// A file without a device, and runs of histories.
+mod history_run;
 #[cfg(test)]
-mod run_tests;
+mod history_tests;
+mod pure_file;
 #[cfg(test)]
 mod tests;
 mod world;
 
-pub use answers::{FillError, Found, Outcome, ReadError};
 pub use event::{Event, Window};
 pub use file_state::{FileState, FlightRow, Stage};
-pub use inc_bytes::{Digest32, Id};
+pub use inc_bytes::Id;
 pub use inc_pending::{ReadRow, RecordList, Times};
 pub use inc_ranges::RangeList;
+pub use inc_tree::Digest32;
 pub use laws::{
-    entries_are_owned, facts_stay, fills_go_by_stages, histories_join, histories_stay_small,
-    polls_go_by_the_map, ranges_tell_the_map, reads_stay, worlds_keep,
+    entries_are_owned, facts_stay, faults_are_told, fills_go_by_stages, histories_are_worlds,
+    histories_join, histories_stay_small, openings_are_lists, others_keep_own, polls_go_by_the_map,
+    ranges_tell_the_map, reads_stay, reads_were_asked, worlds_keep,
 };
+pub use limits::{FIRST_SERIALS, MOST_BLOCKS, MOST_DATA_BLOCKS, MOST_ENTRIES};
 pub use machine::Machine;
+pub use outcomes::{FillError, Found, Outcome, ReadError};
 pub use pure_file::{PureFault, PureFile};
 pub use reply::{Entry, Reply};
 pub use rows::Rows;

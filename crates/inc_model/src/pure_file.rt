@@ -1,15 +1,14 @@
 // A file without a device: the executed relation as a machine.
 ghost use Rattle.std.specs.Prelude.{◌≡◌, ◌<◌, ◌≤◌, Some, OnOk, OnErr, vec_len, vec_capacity};
 ghost use Rattle.inc_model.specs.State.{all_places};
-ghost use Rattle.inc_model.specs.Step.{most_entries};
 ghost use Rattle.inc_model.specs.Facts.{IsStart};
 ghost use Rattle.inc_model.specs.PureState.{made_with, first_of};
 ghost use Rattle.inc_model.specs.declared.pure_file.PureFault.TheVariants.{OutOfMemory as out_of_memory};
 
 use crate::copies::{copy_reply, copy_state};
-use crate::deciding::is_kept;
 use crate::file_core::FileCore;
-use crate::{Entry, Event, FileState, Machine, OutOfMemory, Reply};
+use crate::legality::is_kept;
+use crate::{Entry, Event, FileState, MOST_ENTRIES, Machine, OutOfMemory, Reply};
 use std::alloc::Global;
 use std::marker::Model;
 
@@ -32,7 +31,7 @@ impl From<OutOfMemory> for PureFault {
 #[derive(Drop)]
 pub struct PureFile {
     alloc: Global,
-    /// The state that it was made with, kept from the first step on.
+    /// The state that it was made with, kept from the first entry on.
     first: Option<FileState>,
     core: FileCore,
     entries: Vec<Entry>,
@@ -49,7 +48,7 @@ impl Model for PureFile {
 }
 
 impl PureFile {
-    /// Takes no memory: the state is copied at the first step.
+    /// Takes no memory: the state is copied at the first entry.
     pub fn new(alloc: Global, state: FileState) -> PureFile
         requires start { IsStart state }
         ensures value { result ≡ made_with state }
@@ -63,7 +62,7 @@ impl PureFile {
     }
 }
 
-/// Keeps a copy of the state before the first step changes it.
+/// Keeps a copy of the state before the first entry changes it.
 fn keep_first(
     first: &mut Option<FileState>,
     core: &FileCore,
@@ -78,10 +77,10 @@ fn keep_first(
     Ok(())
 }
 
-/// Takes room for an entry. An event that takes no place of its window's claim also takes room for all places that are claimed: so each
-/// event that does take one finds room, and needs no memory.
+/// Takes room for an entry. An event that takes no place of its window's claim also takes room for all places that are claimed, so that
+/// each event that does take one finds room. That such an event wants no memory is no clause, since no contract sees a core's capacities.
 fn take_room(core: &mut FileCore, entries: &mut Vec<Entry>, event: Event) -> Result<(), OutOfMemory>
-    requires places { all_places core.old.claimed ≤ most_entries }
+    requires places { all_places core.old.claimed ≤ MOST_ENTRIES }
     ensures core { core.new ≡ core.old }
     ensures entries { entries.new.items ≡ entries.old.items }
     ensures room { OnOk result (vec_len entries.new < vec_capacity entries.new) }
@@ -104,7 +103,7 @@ impl Machine for PureFile {
 
     ghost use Rattle.inc_model.specs.Changes.{window_of};
     ghost use Rattle.inc_model.specs.Step.{IsOwn};
-    ghost use Rattle.inc_model.specs.Pure.{PureSteps};
+    ghost use Rattle.inc_model.specs.PureStep.{PureSteps};
     ghost use Rattle.inc_model.specs.PureLaws.{pure_grows, pure_stays};
 
     ghost history = { λ p. p.history };
@@ -121,11 +120,11 @@ impl Machine for PureFile {
             let claimed = self.core.claimed_places();
             return Err(PureFault::HistoryFull { entries, claimed });
         }
-        keep_first(&mut self.first, &self.core, self.alloc)?;
         let reply = self.core.reply_to(self.alloc, who, event)?;
         if !is_kept(&reply) {
             return Ok(reply);
         }
+        keep_first(&mut self.first, &self.core, self.alloc)?;
         let copy = copy_reply(self.alloc, &reply)?;
         take_room(&mut self.core, &mut self.entries, event)?;
         self.core.apply(entries, who, event, &reply)?;

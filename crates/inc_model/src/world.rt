@@ -1,13 +1,14 @@
 // Runs of one file, from a fresh one on.
 ghost use Rattle.std.specs.Prelude.{◌≡◌, ℕ, true, take, IfOk};
-ghost use Rattle.inc_model.specs.Runs.{RunsTo, fresh_state, all_entries, moves_of, HaveNoCrash};
+ghost use Rattle.inc_model.specs.Runs.{RunsTo, fresh_state, all_entries, HaveNoCrash};
 ghost use Rattle.inc_model.specs.Facts.{IsStart};
-ghost use Rattle.inc_model.specs.Worlds.{beginning, IsWorld};
+ghost use Rattle.inc_model.specs.State.{IsOpening};
+ghost use Rattle.inc_model.specs.Worlds.{beginning, IsWorld, moves_of, world_after};
 
-use crate::entries::run_entries;
 use crate::file_core::FileCore;
+use crate::history_run::run_entries;
 use crate::{Entry, FileState, OutOfMemory, Rows};
-use inc_tree::{Geometry, MOST_SIZE};
+use inc_tree::Geometry;
 use std::alloc::Global;
 
 /// A part of a run, which a crash ends or not.
@@ -25,21 +26,25 @@ pub struct WorldEnd {
     pub done: u64,
 }
 
-/// The readers of a fresh file.
-const READERS: u32 = 64;
+/// The bytes of a fresh file.
+pub const FRESH_SIZE: u64 = 1 << 30;
 
-/// A fresh file of the greatest size, with an id and a root of zeros. It takes no memory.
-#[tactic(auto, using(crate::proofs::Starting::fresh_start), unfolding(crate::specs::Runs::fresh_state))]
+/// The readers of a fresh file.
+pub const FRESH_READERS: u32 = 64;
+
+/// A fresh file of `FRESH_SIZE` bytes, with an id and a root of zeros. It takes no memory.
+#[tactic(auto, using(crate::proofs::runs::Start::fresh_start, crate::proofs::runs::Start::fresh_opening), unfolding(crate::specs::Runs::fresh_state))]
 pub fn fresh_file(alloc: Global) -> FileState
     ensures value { result ≡ fresh_state }
     ensures start { IsStart result }
+    ensures opening { IsOpening result }
 {
-    let tree = Geometry::of(MOST_SIZE).unwrap();
+    let tree = Geometry::of(FRESH_SIZE).unwrap();
     FileState {
         id: [0; 16],
         n: tree.data_blocks(),
         m: tree.hash_blocks(),
-        root: [0; 32],
+        root: Some([0; 32]),
         map: Rows::from_vec(Vec::new(alloc)),
         damaged: Rows::from_vec(Vec::new(alloc)),
         compressed: Rows::from_vec(Vec::new(alloc)),
@@ -52,7 +57,7 @@ pub fn fresh_file(alloc: Global) -> FileState
         acknowledged: Rows::from_vec(Vec::new(alloc)),
         faults: 0,
         failed: None,
-        readers: READERS,
+        readers: FRESH_READERS,
     }
 }
 
@@ -60,13 +65,14 @@ pub fn fresh_file(alloc: Global) -> FileState
 pub struct World;
 
 impl World {
-    /// Runs the rounds from a fresh file of 2^30 bytes with 64 readers. It ends before the first entry that isn't legal, or after the
+    /// Runs the rounds from a fresh file. It ends before the first entry that isn't legal, or after the
     /// last round.
-    #[tactic(auto, using(crate::proofs::Rounds::rounds_end))]
+    #[tactic(auto, using(crate::proofs::runs::Rounds::rounds_end))]
     pub fn run(alloc: Global, rounds: &[Round]) -> Result<WorldEnd, OutOfMemory>
         requires no_crash { HaveNoCrash rounds.now }
         ensures runs { IfOk result (λ end. RunsTo 0 fresh_state (all_entries rounds.now) end.done end.state) }
         ensures world { IfOk result (λ end. IsWorld true (beginning fresh_state) (moves_of (take end.done (all_entries rounds.now)))) }
+        ensures end { IfOk result (λ end. (world_after (beginning fresh_state) (moves_of (take end.done (all_entries rounds.now)))).state ≡ end.state) }
     {
         let mut core = FileCore::new(fresh_file(alloc));
         let mut done = 0;

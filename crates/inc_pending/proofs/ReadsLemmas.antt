@@ -1,18 +1,18 @@
 -- One read among the rows: where it stands, and the list without it.
-use Rattle.std.proofs.Common.{◌≡◌, ◌≢◌, ℕ, zero, suc, ◌+◌, ◌-◌, ◌<◌, ◌≤◌, ◌⊎◌, Bool, true, false, not, ◌&&◌, cond, eqb, ltb, leb, List, [], ◌∷◌, ◌++◌, length, get_or, set, take, drop, map, Option, Some, None, refl, sym, ap, subst, ◌∙◌, add-zero, arith, inl, inr}
-use Rattle.std.specs.Prelude.{All, Any, AllPairs, filter, find, position, remove, count_by}
+use Rattle.std.proofs.Common.{◌≡◌, ℕ, zero, suc, ◌+◌, ◌-◌, ◌<◌, ◌≤◌, Bool, true, false, not, cond, leb, List, [], ◌∷◌, ◌++◌, length, get_or, set, take, drop, map, Option, Some, None, refl, sym, ap, subst, ◌∙◌, add-zero, arith, inl, inr}
+use Rattle.std.specs.Prelude.{All, filter, find, position, remove, count_by}
 use mir.Val.{bool_byte}
 use Rattle.std.specs.List.{position_or_len}
 use Rattle.std.proofs.lemmas.Bool.{cases_lt, lt-ltb, eqb-true, eq-eqb, ne_eqb, and_parts, and_from, leb-true, leb-false, le-leb, lt-leb, false_from_ne_true}
 use Rattle.std.proofs.lemmas.List.{get_or-drop, get_or-append_right, get_or_default, length-drop, length-map, length-take}
 use Rattle.std.proofs.lemmas.List.Edits.{map_over_more}
 use Rattle.std.proofs.lemmas.List.Sums.{fails_before_first, count_by_more_yes, count_by_more_no}
-use Rattle.std.proofs.lemmas.List.Elements.{All-nil, All-cons, All-head, All-tail, All-weaker}
+use Rattle.std.proofs.lemmas.List.Elements.{All-head, All-tail}
 use Rattle.std.proofs.lemmas.List.Quantifiers.{position-Some}
 use Rattle.inc_pending.specs.declared.reads.ReadRow.{ReadRow}
 use Rattle.inc_pending.specs.declared.reads.Decision.{Decision}
 use Rattle.inc_pending.specs.declared.reads.Decision.TheVariants.{Stranger, Hand, TimedOut, NotYet}
-use Rattle.inc_pending.specs.Polling.{AreRising, IsAsked, is_asked, read_of, reads_but, decision, decision_of, Answers, waits_on, marked}
+use Rattle.inc_pending.specs.Polling.{AreRising, IsAsked, is_asked, read_of, reads_but, decision, decision_of, IsAnswer, waits_on, marked}
 
 -- ---- a test that passes at one place alone
 
@@ -113,25 +113,25 @@ but_none who serial rows e = filter_none (is_asked who serial) rows (none_at who
 
 -- ---- what an answer says
 
-answer_by : (reads : List ReadRow) (who serial at i : ℕ) (row : ReadRow) → IsFirst (is_asked who serial) reads i row → (done floor deadline : Bool) → row.done ≡ done → leb row.floor at ≡ floor → leb row.deadline at ≡ deadline → Answers reads who serial at (cond done (cond floor (Hand row.block) NotYet) (cond deadline (TimedOut row.deadline) NotYet))
+answer_by : (reads : List ReadRow) (who serial at i : ℕ) (row : ReadRow) → IsFirst (is_asked who serial) reads i row → (done floor deadline : Bool) → row.done ≡ done → leb row.floor at ≡ floor → leb row.deadline at ≡ deadline → IsAnswer reads who serial at (cond done (cond floor (Hand row.block) NotYet) (cond deadline (TimedOut row.deadline) NotYet))
 answer_by reads who serial at i row h true true deadline d f l = (i, row, h.within, h.here, (is_asked-true who serial row h.passes, refl, d, leb-true _ _ f))
 answer_by reads who serial at i row h true false deadline d f l = (i, row, h.within, h.here, (is_asked-true who serial row h.passes, inl (d, leb-false _ _ f)))
 answer_by reads who serial at i row h false floor true d f l = (i, row, h.within, h.here, (is_asked-true who serial row h.passes, refl, d, leb-true _ _ l))
 answer_by reads who serial at i row h false floor false d f l = (i, row, h.within, h.here, (is_asked-true who serial row h.passes, inr (d, leb-false _ _ l)))
 
-answer_at : (who serial : ℕ) (rows : List ReadRow) (place : Option ℕ) (at : ℕ) → position (λ row. is_asked who serial row) rows ≡ place → (default : ReadRow) → Answers rows who serial at (decision_of (read_of who serial rows) at)
+answer_at : (who serial : ℕ) (rows : List ReadRow) (place : Option ℕ) (at : ℕ) → position (λ row. is_asked who serial row) rows ≡ place → (default : ReadRow) → IsAnswer rows who serial at (decision_of (read_of who serial rows) at)
 answer_at who serial rows None at e default =
-    let P : Option ReadRow → Type 0 = λ found. Answers rows who serial at (decision_of found at) in
+    let P : Option ReadRow → Type 0 = λ found. IsAnswer rows who serial at (decision_of found at) in
     let none = none_at who serial rows e in
     subst P (sym (found_none who serial rows e)) (λ k d lt. is_asked-false who serial (get_or rows k d) (none k d lt))
 answer_at who serial rows (Some place) at e default =
-    let P : Option ReadRow → Type 0 = λ found. Answers rows who serial at (decision_of found at) in
+    let P : Option ReadRow → Type 0 = λ found. IsAnswer rows who serial at (decision_of found at) in
     let told = position-Some (is_asked who serial) rows place default e in
     let row = get_or rows place default in
     let is : row ≡ get_or rows place row = get_or_default rows place default row told.0 in
     subst P (sym (found_at who serial rows place default e)) (answer_by rows who serial at place row (first_at who serial rows place row e is) _ _ _ refl refl refl)
 
-pub answers : (rows : List ReadRow) (who serial at : ℕ) → Answers rows who serial at (decision_of (read_of who serial rows) at)
+pub answers : (rows : List ReadRow) (who serial at : ℕ) → IsAnswer rows who serial at (decision_of (read_of who serial rows) at)
 answers rows who serial at = answer_at who serial rows (position (λ row. is_asked who serial row) rows) at refl (record { serial = 0; who = 0; block = 0; uid = 0; asked = 0; floor = 0; deadline = 0; done = false })
 
 -- ---- no other answer would be right
@@ -164,7 +164,7 @@ decision_late row at done deadline = rw (done, le-leb row.deadline at deadline) 
 decision_waits : (row : ReadRow) (at : ℕ) → row.done ≡ false → at < row.deadline → decision row at ≡ NotYet
 decision_waits row at done deadline = rw (done, lt-leb row.deadline at deadline) refl
 
-pub only_answer : (rows : List ReadRow) (who serial at : ℕ) → AreRising rows → (other : Decision) → Answers rows who serial at other → other ≡ decision_of (read_of who serial rows) at
+pub only_answer : (rows : List ReadRow) (who serial at : ℕ) → AreRising rows → (other : Decision) → IsAnswer rows who serial at other → other ≡ decision_of (read_of who serial rows) at
 only_answer rows who serial at rising Stranger h =
     let none : NonePass (is_asked who serial) rows = λ k d lt. false_from_ne_true _ (λ yes. h k d lt (is_asked-true who serial (get_or rows k d) yes)) in
     sym (ap (λ found. decision_of found at) (find_none (is_asked who serial) rows none))

@@ -1,5 +1,5 @@
 -- What every table keeps: serials rise, and stay below the next one.
-use Rattle.std.proofs.Common.{◌≡◌, ℕ, suc, ◌+◌, ◌<◌, ◌≤◌, Bool, true, false, not, cond, List, [], ◌∷◌, ◌++◌, length, get_or, take, map, refl, sym, ap, arith}
+use Rattle.std.proofs.Common.{◌≡◌, ℕ, suc, ◌+◌, ◌<◌, Bool, true, false, not, cond, List, [], ◌∷◌, ◌++◌, length, get_or, take, map, refl, arith}
 use Rattle.std.specs.Prelude.{All, AllPairs, filter}
 use Rattle.std.proofs.lemmas.List.{length-append, length-map, length-take, get_or-take}
 use Rattle.std.proofs.lemmas.List.Elements.{All-nil, All-push, All-filter, All-map}

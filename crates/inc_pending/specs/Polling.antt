@@ -74,11 +74,11 @@ IsAsked who serial row = (row.serial ≡ serial) × (row.who ≡ who)
 
 -- which answer of a poll at a moment is right: there is no read with this serial that this asker asked, or there is, and it is
 -- done and its floor reached, or it isn't done and its deadline reached, or neither
-abbrev pub Answers : List ReadRow → ℕ → ℕ → ℕ → Decision → Type 0
-Answers reads who serial at Stranger = All (λ row. IsAsked who serial row → ⊥) reads
-Answers reads who serial at (Hand block) = Any (λ row. IsAsked who serial row × (row.block ≡ block) × (row.done ≡ true) × (row.floor ≤ at)) reads
-Answers reads who serial at (TimedOut deadline) = Any (λ row. IsAsked who serial row × (row.deadline ≡ deadline) × (row.done ≡ false) × (row.deadline ≤ at)) reads
-Answers reads who serial at NotYet = Any (λ row. IsAsked who serial row × (((row.done ≡ true) × (at < row.floor)) ⊎ ((row.done ≡ false) × (at < row.deadline)))) reads
+abbrev pub IsAnswer : List ReadRow → ℕ → ℕ → ℕ → Decision → Type 0
+IsAnswer reads who serial at Stranger = All (λ row. IsAsked who serial row → ⊥) reads
+IsAnswer reads who serial at (Hand block) = Any (λ row. IsAsked who serial row × (row.block ≡ block) × (row.done ≡ true) × (row.floor ≤ at)) reads
+IsAnswer reads who serial at (TimedOut deadline) = Any (λ row. IsAsked who serial row × (row.deadline ≡ deadline) × (row.done ≡ false) × (row.deadline ≤ at)) reads
+IsAnswer reads who serial at NotYet = Any (λ row. IsAsked who serial row × (((row.done ≡ true) × (at < row.floor)) ⊎ ((row.done ≡ false) × (at < row.deadline)))) reads
 
 -- which answers end a read
 abbrev pub ends : Decision → Bool
@@ -111,4 +111,4 @@ abbrev pub is_pending_after : ℕ → ReadRow → Bool
 is_pending_after serial row = not row.done && nat_lt serial row.serial
 
 abbrev pub record_of : List ℕ → ReadRow → PendingRecord
-record_of id row = record { id = id; asked = row.asked; block = row.block; serial = row.serial }
+record_of id row = record { id = id; asked = row.asked; block = row.block; serial = row.serial; uid = row.uid }

@@ -1,6 +1,7 @@
--- How long the reads of each user are held back and wait: a map from at most 256 uids.
+-- How long the reads of each user are held back and wait: a map from at most so many uids.
 use Rattle.std.specs.Prelude.{ℕ, ◌≤◌, List, length, unwrap_or}
 use Rattle.inc_pending.specs.Keyed.{lookup, KeysRise}
+use Rattle.inc_pending.specs.declared.timeouts.TheConstants.{MOST_ROWS}
 use Rattle.inc_pending.specs.declared.timeouts.Times.{Times}
 
 -- nothing is held back, and a read waits for a second
@@ -12,4 +13,4 @@ times_of uid rows = unwrap_or (lookup uid rows) default_times
 
 pub record HoldsTimes (rows : List (ℕ × Times)) : Type 0 where
   pub rise : KeysRise rows
-  pub few : length rows ≤ 256
+  pub few : length rows ≤ MOST_ROWS

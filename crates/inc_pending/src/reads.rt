@@ -174,6 +174,7 @@ fn records_after(
             asked: row.asked,
             block: row.block,
             serial: row.serial,
+            uid: row.uid,
         })
         .collect(alloc)
 }

@@ -1,5 +1,5 @@
 ghost use Rattle.std.specs.Prelude.{◌≡◌, ◌+◌, ◌^◌, ◌<◌, ◌++◌, [], ◌∷◌, map, take, filter, count_by, is_some, All, AllPairs, IfOk, OnErr};
-ghost use Rattle.inc_pending.specs.Polling.{Waiting, no_reads, asked_row, asked, read_of, decision_of, polled, cancelled, marked_all, waits_on, is_pending_after, record_of, Answers};
+ghost use Rattle.inc_pending.specs.Polling.{Waiting, no_reads, asked_row, asked, read_of, decision_of, polled, cancelled, marked_all, waits_on, is_pending_after, record_of, IsAnswer};
 ghost use Rattle.inc_pending.specs.declared.reads.Decision.{Decision};
 
 use crate::reads::{asked_read, drop_read, look_at, mark_reads, pending_after};
@@ -37,7 +37,8 @@ impl Table {
         }
     }
 
-    /// Adds a read and gives its serial. `present` says whether its block is there.
+    /// Adds a read and gives its serial. `present` says whether its block is there. Serials fit for far more asks than a file's history
+    /// has places.
     #[tactic(auto, using(crate::proofs::TableLemmas::holds_asked))]
     pub fn ask(
         &mut self,
@@ -48,7 +49,7 @@ impl Table {
         now: u64,
         t: Times,
     ) -> Result<u32, OutOfMemory>
-        requires serials { self.old.next + 1 < 2 ^ 32 }
+        requires serials { self.old.next < u32.MAX }
         ensures serial { IfOk result (λ serial. serial ≡ self.old.next) }
         ensures ok { IfOk result (λ serial. self.new ≡ asked (asked_row serial who block present uid now t) self.old) }
         ensures err { OnErr result (self.new ≡ self.old) }
@@ -65,8 +66,8 @@ impl Table {
     pub fn poll(&mut self, who: u32, serial: u32, now: u64) -> Decision
         ensures value { result ≡ decision_of (read_of who serial self.old.reads) now }
         // The answer says what stands, and no other would.
-        ensures answers { Answers self.old.reads who serial now result }
-        ensures only { (other : Decision) → Answers self.old.reads who serial now other → other ≡ result }
+        ensures answers { IsAnswer self.old.reads who serial now result }
+        ensures only { (other : Decision) → IsAnswer self.old.reads who serial now other → other ≡ result }
         ensures after { self.new ≡ polled who serial result self.old }
     {
         let decision = look_at(self.reads.as_slice(), who, serial, now);
@@ -81,8 +82,8 @@ impl Table {
     #[tactic(auto, using(crate::proofs::ReadsLemmas::answers, crate::proofs::ReadsLemmas::only_answer))]
     pub fn look(&self, who: u32, serial: u32, now: u64) -> Decision
         ensures value { result ≡ decision_of (read_of who serial self.now.reads) now }
-        ensures answers { Answers self.now.reads who serial now result }
-        ensures only { (other : Decision) → Answers self.now.reads who serial now other → other ≡ result }
+        ensures answers { IsAnswer self.now.reads who serial now result }
+        ensures only { (other : Decision) → IsAnswer self.now.reads who serial now other → other ≡ result }
     {
         look_at(self.reads.as_slice(), who, serial, now)
     }

@@ -79,6 +79,7 @@ fn a_block_that_came_ends_the_wait_of_its_own_reads(rt: HostRuntime) -> Result<(
         asked: 1000,
         block: 5,
         serial: 3,
+        uid: UID,
     };
     let told = table.take_after(rt.alloc(), &ID, 0, 8)?;
     assert_eq!(rt; told.as_slice(), [record].as_slice());
@@ -112,21 +113,33 @@ fn the_257th_user_finds_no_row(rt: HostRuntime) -> Result<(), Fail> {
     Ok(())
 }
 
-#[test]
-fn a_record_has_the_bytes_of_the_public_interface(rt: HostRuntime) -> Result<(), Fail> {
-    let record = PendingRecord {
+/// A read of block 4 at 1000, with the first serial, by the user 10000.
+fn first_read(uid: u32) -> PendingRecord {
+    PendingRecord {
         id: ID,
         asked: 1000,
         block: 4,
         serial: 1,
-    };
-    let bytes = [
-        0x00, 0x11, 0x22, 0x33, 0x44, 0x55, 0x66, 0x77, 0x88, 0x99, 0xaa, 0xbb, 0xcc, 0xdd, 0xee,
-        0xff, 0xe8, 0x03, 0, 0, 0, 0, 0, 0, 4, 0, 0, 0, 1, 0, 0, 0,
-    ];
-    assert_eq!(rt; record.to_bytes(), bytes);
-    assert_eq!(rt; PendingRecord::of_bytes(&bytes), record);
-    let copy = RecordList::of(rt.alloc(), &[record])?;
-    assert_eq!(rt; copy.into_vec().as_slice(), [record].as_slice());
-    Ok(())
+        uid,
+    }
+}
+
+/// What follows the id in its 32 bytes.
+const FIELDS: [u8; 16] = [0xe8, 0x03, 0, 0, 0, 0, 0, 0, 4, 0, 0, 0, 1, 0, 0, 0];
+
+#[test]
+fn a_record_has_the_bytes_of_the_public_interface(rt: HostRuntime) {
+    let bytes = first_read(10_000).to_bytes();
+    assert!(rt; &bytes[..16] == ID.as_slice());
+    assert!(rt; &bytes[16..] == FIELDS.as_slice());
+    assert!(rt; PendingRecord::of_bytes(&bytes) == first_read(0));
+}
+
+#[test]
+fn the_wide_record_has_its_user(rt: HostRuntime) {
+    let bytes = first_read(10_000).to_bytes2();
+    assert!(rt; &bytes[..16] == ID.as_slice());
+    assert!(rt; &bytes[16..32] == FIELDS.as_slice());
+    assert!(rt; &bytes[32..] == [0x10, 0x27, 0, 0, 0, 0, 0, 0].as_slice());
+    assert!(rt; PendingRecord::of_bytes2(&bytes) == first_read(10_000));
 }

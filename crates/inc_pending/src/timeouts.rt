@@ -31,7 +31,7 @@ pub const MOST_ROWS: usize = 256;
 
 #[derive(Clone, Copy, Debug, PartialEq, Eq)]
 pub enum TimesFault {
-    /// 256 other users have rows, and this one has none.
+    /// `MOST_ROWS` other users have rows, and this one has none.
     Full,
     OutOfMemory,
 }
@@ -52,7 +52,7 @@ impl<T: Drop> From<AllocFailed<T>> for TimesFault {
     }
 }
 
-/// The times of each user, by rising uid: a map of at most 256 rows.
+/// The times of each user, by rising uid: a map of at most `MOST_ROWS` rows.
 #[derive(Drop)]
 pub struct Timeouts {
     rows: Vec<(u32, Times)>,
@@ -100,11 +100,11 @@ impl Timeouts {
     pub fn set(&mut self, uid: u32, t: Times) -> Result<(), TimesFault>
         ensures ok { OnOk result (self.new ≡ insert uid t self.old) }
         ensures err { OnErr result (self.new ≡ self.old) }
-        ensures full { (result ≡ Err TimesFault.Full) ↔ ((length self.old ≡ 256) × (lookup uid self.old ≡ None)) }
+        ensures full { (result ≡ Err TimesFault.Full) ↔ ((length self.old ≡ MOST_ROWS) × (lookup uid self.old ≡ None)) }
 
         // Only this user's times change.
         ensures map { OnOk result ((other : ℕ) → lookup other self.new ≡ (if other == uid then Some t else lookup other self.old)) }
-        ensures few { length self.new ≤ 256 }
+        ensures few { length self.new ≤ MOST_ROWS }
     {
         match place_of(self.rows.as_slice(), uid) {
             Ok(at) => {

@@ -3,7 +3,7 @@ use Rattle.std.proofs.Common.{◌≡◌, ℕ, ◌+◌, ◌-◌, ◌^◌, cond, l
 use Rattle.std.proofs.lemmas.Bool.{cases_lt, lt-ltb, le-ltb}
 use Rattle.std.proofs.lemmas.List.{length-drop, length-append, drop-append-le, drop-drop}
 use Rattle.inc_readlog.specs.declared.entry.LogEntry.{LogEntry}
-use Rattle.inc_readlog.specs.Log.{Log, the_last, logged, Tells}
+use Rattle.inc_readlog.specs.Log.{LoggedReads, the_last, logged, Tells}
 
 -- the last of the last and one more are the last of all and it
 last_more : (room : ℕ) (all : List LogEntry) (entry : LogEntry) → the_last room (the_last room all ++ entry ∷ []) ≡ the_last room (all ++ entry ∷ [])
@@ -23,7 +23,7 @@ lost_more room kept total lost k l = elim (cases_lt kept room) [
   | inr le ↦ rw (le-ltb kept room le) (omega arith)
 ]
 
-pub tells_more : (log : Log) (entry : LogEntry) (all : List LogEntry) → Tells all log → Tells (all ++ entry ∷ []) (logged log entry)
+pub tells_more : (log : LoggedReads) (entry : LogEntry) (all : List LogEntry) → Tells all log → Tells (all ++ entry ∷ []) (logged log entry)
 tells_more log entry all h = record {
   last = ap (λ xs. the_last log.room (xs ++ entry ∷ [])) h.last ∙ last_more log.room all entry;
   others =

@@ -15,9 +15,9 @@ pub struct ReadLog {
 }
 
 impl Model for ReadLog {
-    ghost use Rattle.inc_readlog.specs.Log.{Log};
+    ghost use Rattle.inc_readlog.specs.Log.{LoggedReads};
 
-    ghost Value = { Log };
+    ghost Value = { LoggedReads };
 
     ghost view = { λ l. record { room = l.ring.capacity; entries = l.ring.items; lost = l.lost } };
 }

@@ -4,7 +4,7 @@ ghost use Rattle.inc_io.specs.declared.failed.LendFault.TheVariants.{Failed as l
 
 use crate::RealDisk;
 use inc_disk::Shelf;
-use inc_io::{LendFault, Name, NameList, ReadShelf};
+use inc_io::{Backing, LendFault, Name, NameList, ReadShelf};
 use std::fs::{File, OpenFile, OpenOptions};
 use std::io::ErrorKind;
 use std::rt::Files;
@@ -29,6 +29,19 @@ impl<'a, R: Files<File = File> + AllocGlobal + Clone + Drop> FolderShelf<'a, R> 
     {
         self.faults = self.faults.saturating_add(1);
         LendFault::Failed
+    }
+
+    /// Takes away a new file whose name the folder couldn't keep. Nothing stands in it, so nothing is lost. Where the name can't be taken
+    /// away either, that is a second fault, and an empty file may stay.
+    fn remove_new(&mut self, name: &Name) -> LendFault
+        ensures later { self.old.faults ≤ self.new.faults }
+        ensures rose { Rose self.old.faults self.new.faults }
+        ensures value { result ≡ lend_failed }
+    {
+        if fs::remove_file(self.rt, name.as_str()).is_err() {
+            let _ = self.fault();
+        }
+        self.fault()
     }
 }
 
@@ -80,23 +93,38 @@ fn open_regular<R: Files<File = File> + AllocGlobal + Clone + Drop>(
     }
 }
 
-/// Makes a new, empty file and has the folder keep its name. There is none where the name is there already, whatever it is.
-fn create_regular<R: Files<File = File> + AllocGlobal + Clone + Drop>(
+/// Takes the whole file for this process to write, without waiting. The lock goes with the file. Where another process holds it this is a
+/// failure, since two that wrote would tear each other's records.
+fn take_for_writing(file: &File) -> io::Result<()> {
+    match file.try_lock() {
+        Ok(()) => Ok(()),
+        Err(error) => Err(io::Error::from(error)),
+    }
+}
+
+/// Opens a regular file to be written by this process alone. The folder is synced, so that a name that was just copied in outlives a crash
+/// as what is written under it does.
+fn open_to_write<R: Files<File = File> + AllocGlobal + Clone + Drop>(
     rt: &R,
     name: &Name,
 ) -> io::Result<Option<File>> {
-    let file = match File::create_new(rt, name.as_str()) {
-        Ok(file) => file,
-        Err(error) if error.kind() == ErrorKind::AlreadyExists => return Ok(None),
-        Err(error) => return Err(error),
+    let Some(file) = open_regular(rt, name, true)? else {
+        return Ok(None);
     };
-    match sync_folder(rt) {
-        Ok(()) => Ok(Some(file)),
-        Err(error) => {
-            // Nothing stands in the file yet, so that nothing is lost.
-            let _ = fs::remove_file(rt, name.as_str());
-            Err(error)
-        }
+    take_for_writing(&file)?;
+    sync_folder(rt)?;
+    Ok(Some(file))
+}
+
+/// Makes a new, empty file to be written by this process alone. There is none where the name is there already, whatever it is.
+fn create_to_write<R: Files<File = File> + AllocGlobal + Clone + Drop>(
+    rt: &R,
+    name: &Name,
+) -> io::Result<Option<File>> {
+    match File::create_new(rt, name.as_str()) {
+        Ok(file) => Ok(Some(file)),
+        Err(error) if error.kind() == ErrorKind::AlreadyExists => Ok(None),
+        Err(error) => Err(error),
     }
 }
 
@@ -105,7 +133,7 @@ fn sync_folder<R: Files<File = File> + AllocGlobal + Clone + Drop>(rt: &R) -> io
 }
 
 impl<R: Files<File = File> + AllocGlobal + Clone + Drop> ReadShelf for FolderShelf<'_, R> {
-    type File = RealDisk;
+    type File = RealDisk<File>;
 
     type Kept = ();
 
@@ -128,7 +156,7 @@ impl<R: Files<File = File> + AllocGlobal + Clone + Drop> ReadShelf for FolderShe
         }
     }
 
-    fn open_read(&mut self, name: &Name) -> Result<Option<RealDisk>, LendFault> {
+    fn open_read(&mut self, name: &Name) -> Result<Option<RealDisk<File>>, LendFault> {
         match open_regular(self.rt, name, false) {
             Ok(Some(file)) => Ok(Some(RealDisk::of(file))),
             Ok(None) => Ok(None),
@@ -136,34 +164,42 @@ impl<R: Files<File = File> + AllocGlobal + Clone + Drop> ReadShelf for FolderShe
         }
     }
 
-    fn close_read(&mut self, _name: &Name, file: RealDisk) {
-        self.faults = self.faults.saturating_add(file.into_faults());
+    fn close_read(&mut self, _name: &Name, file: RealDisk<File>) {
+        self.faults = self.faults.saturating_add(file.fault_count());
     }
 }
 
 impl<R: Files<File = File> + AllocGlobal + Clone + Drop> Shelf for FolderShelf<'_, R> {
-    type Disk = RealDisk;
+    type Disk = RealDisk<File>;
 
     ghost log = { λ _. None };
 
-    fn open_disk(&mut self, name: &Name) -> Result<Option<RealDisk>, LendFault> {
-        match open_regular(self.rt, name, true) {
+    fn open_disk(&mut self, name: &Name) -> Result<Option<RealDisk<File>>, LendFault> {
+        match open_to_write(self.rt, name) {
             Ok(Some(file)) => Ok(Some(RealDisk::of(file))),
             Ok(None) => Ok(None),
             Err(_) => Err(self.fault()),
         }
     }
 
-    fn create_disk(&mut self, name: &Name) -> Result<Option<RealDisk>, LendFault> {
-        match create_regular(self.rt, name) {
-            Ok(Some(file)) => Ok(Some(RealDisk::of(file))),
-            Ok(None) => Ok(None),
-            Err(_) => Err(self.fault()),
+    fn create_disk(&mut self, name: &Name) -> Result<Option<RealDisk<File>>, LendFault> {
+        let file = match create_to_write(self.rt, name) {
+            Ok(Some(file)) => file,
+            Ok(None) => return Ok(None),
+            Err(_) => return Err(self.fault()),
+        };
+        // Who has locked the new file before us has opened it as it stands, and goes on with it.
+        if take_for_writing(&file).is_err() {
+            return Err(self.fault());
+        }
+        match sync_folder(self.rt) {
+            Ok(()) => Ok(Some(RealDisk::of(file))),
+            Err(_) => Err(self.remove_new(name)),
         }
     }
 
-    fn close_disk(&mut self, _name: &Name, disk: RealDisk) {
-        self.faults = self.faults.saturating_add(disk.into_faults());
+    fn close_disk(&mut self, _name: &Name, disk: RealDisk<File>) {
+        self.faults = self.faults.saturating_add(disk.fault_count());
     }
 
     ghost contents_now = { λ _. refl };

@@ -7,12 +7,14 @@
 
 mod clock;
 mod disk;
+mod file;
 mod folder;
 mod sink;
 mod source;
 
 pub use clock::RealClock;
 pub use disk::RealDisk;
+pub use file::{FileCall, PlacedFile};
 pub use folder::FolderShelf;
 pub use sink::StdSink;
 pub use source::StdSource;

@@ -13,15 +13,17 @@ use Rattle.inc_md.specs.Staying.{IsSameChain, in_counts, in_span}
 use Rattle.inc_md.specs.declared.records.Records.{Records}
 use Rattle.inc_md.specs.declared.records.StatusRecord.{StatusRecord}
 use Rattle.inc_md.proofs.SameChain.{HasCounts, HasSpan, counts_within}
-use Rattle.inc_entry.specs.Entry.{Places, class_of, entries, entry_at, entry_of, past_end}
+use Rattle.inc_entry.specs.Entry.{Places, class_of, entries, entry_at, entry_from, past_end}
 use Rattle.inc_entry.specs.declared.classes.Class.{Class}
 use Rattle.inc_entry.specs.declared.classes.Class.TheVariants.{OpenAt, Closed, Compressed, Damaged}
 use Rattle.inc_disk.specs.Disk.{overwritten}
-use Rattle.inc_layout.specs.Backing.{IsBackingFile, class_at, digest_of, fixed_in, is_past, stored_digest}
-use Rattle.inc_layout.specs.Fixed.{Fixed, IsFixed, blob_span, header_span, needs_map}
-use Rattle.inc_layout.specs.SameFixed.{IsSameFixed, in_spans, is_fixed_byte}
+use Rattle.inc_entry.specs.Spans.{in_spans}
+use Rattle.inc_entry.specs.Stored.{class_at, digest_of, is_past, stored_digest}
+use Rattle.inc_layout.specs.Backing.{IsBackingFile, fixed_in}
+use Rattle.inc_layout.specs.Fixed.{Fixed, IsFixed, blob_spans, header_span, needs_map}
+use Rattle.inc_layout.specs.SameFixed.{IsSameFixed, is_fixed_byte}
 use Rattle.inc_layout.specs.declared.opened.Opened.{Opened}
-use Rattle.inc_layout.proofs.EntryLemmas.{open_inside}
+use Rattle.inc_entry.proofs.BlockLemmas.{open_inside}
 use Rattle.inc_layout.proofs.LayoutMeaning.{layout_stands}
 use Rattle.inc_layout.proofs.SameFixedLemmas.{fixed_stays}
 use Rattle.inc_fill.specs.Steps.{count_bytes}
@@ -59,7 +61,7 @@ counts_in_spans bytes fixed j stands None e here = absurd cc
 counts_in_spans bytes fixed j stands (Some status) e here =
     let has = counts_within bytes (length bytes) stands.first (needs_map fixed.header) fixed.records status stands.chain e in
     let means = counts_mean status j here in
-    let among = or_later (in_span j header_span) _ (spans_have status.at j fixed.records.spans (blob_span stands.signature ∷ []) has means.0 means.1) in
+    let among = or_later (in_span j header_span) _ (spans_have status.at j fixed.records.spans (blob_spans fixed.records.signature) has means.0 means.1) in
     subst (λ (places : Places). in_spans places.spans j ≡ true) (sym stands.placed) among
 
 -- so they are inside the file
@@ -91,7 +93,7 @@ spares_entry bytes fixed i k stands lt small = by_cases _ (λ here.
     (counts_in_spans bytes fixed (entry_at fixed.places i + k) stands fixed.records.status refl here) (in_map fixed.places i k lt small))
 
 entry_same : (bytes other : List ℕ) (fixed : Fixed) (i : ℕ) → IsFixed bytes fixed → OthersSame fixed.records.status bytes other → i < entries fixed.places
-    → entry_of other (entry_at fixed.places i) ≡ entry_of bytes (entry_at fixed.places i)
+    → entry_from other (entry_at fixed.places i) ≡ entry_from bytes (entry_at fixed.places i)
 entry_same bytes other fixed i stands same lt =
     same_entry other bytes (entry_at fixed.places i) (λ k small. same (entry_at fixed.places i + k) (spares_entry bytes fixed i k stands lt small))
 
@@ -99,7 +101,7 @@ entry_same bytes other fixed i stands same lt =
 digest_same : (bytes other : List ℕ) (fixed : Fixed) (i : ℕ) (class : Class) → IsFixed bytes fixed → OthersSame fixed.records.status bytes other → length other ≡ length bytes → i < entries fixed.places
     → class_at fixed.places bytes i ≡ class → digest_of fixed.places other i class ≡ digest_of fixed.places bytes i class
 digest_same bytes other fixed i (OpenAt place size) stands same len lt is =
-    let parts = open_parts fixed.places (length bytes) i (entry_of bytes (entry_at fixed.places i)) place size is in
+    let parts = open_parts fixed.places (length bytes) i (entry_from bytes (entry_at fixed.places i)) place size is in
     let inside = open_inside fixed.places bytes i place size is in
     let least = parts.least in
     ap Some (same_digest fixed.places other bytes i place (omega arith) inside (λ k small. same (place + k) (by_cases _ (λ here.
@@ -121,7 +123,7 @@ pub record StillStands (bytes other : List ℕ) (fixed : Fixed) : Type 0 where
 
 pub still_stands : (bytes other : List ℕ) (fixed : Fixed) → IsFixed bytes fixed → length other ≡ length bytes → OthersSame fixed.records.status bytes other → StillStands bytes other fixed
 still_stands bytes other fixed stands len same =
-    let short = stands.short in
+    let short = stands.front.short in
     let has = fixed_stays bytes other fixed stands (λ j here. sym (same j (both_parts (in_spans fixed.places.spans j) (in_counts fixed.records.status j) here))) (omega arith) (omega arith) in
     record {
       found = has.found;
@@ -153,12 +155,14 @@ fixed_again fixed found same = λ d. record { header = same.header d; records = 
 pub opened_again : (bytes other : List ℕ) (opened : Opened) → IsBackingFile bytes opened → length other ≡ length bytes → (still : StillStands bytes other (fixed_in opened))
     → IsBackingFile other (reopened opened still.found.records)
 opened_again bytes other opened stands len still = record {
-  fixed = subst (λ (fixed : Fixed). IsFixed other fixed) (fixed_again (fixed_in opened) still.found still.same) still.stands;
-  len_is = stands.len_is ∙ sym len;
-  area_len = stands.area_len ∙ sym len;
-  none_past = λ i lt. still.past_is i lt ∙ stands.none_past i lt;
-  class_count = stands.class_count;
-  each_class = λ i lt. stands.each_class i lt ∙ sym (still.class_is i lt);
+  laid = record {
+    fixed = subst (λ (fixed : Fixed). IsFixed other fixed) (fixed_again (fixed_in opened) still.found still.same) still.stands;
+    len_is = stands.laid.len_is ∙ sym len;
+    area_len = stands.laid.area_len ∙ sym len;
+    none_past = λ i lt. still.past_is i lt ∙ stands.laid.none_past i lt;
+    class_count = stands.laid.class_count;
+    each_class = λ i lt. stands.laid.each_class i lt ∙ sym (still.class_is i lt);
+  };
   digest_count = stands.digest_count;
   each_digest = λ i lt. stands.each_digest i lt ∙ sym (still.digest_is i lt);
 }

@@ -1,6 +1,6 @@
 mod CountWrites
 mod CountsStand
 pub mod Made
+mod OpenedFacts
 mod MountLemmas
-mod OpenedParts
 mod Reopened

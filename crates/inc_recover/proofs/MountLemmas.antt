@@ -4,51 +4,29 @@ use Rattle.std.specs.Prelude.{IfSome, nat_le, nat_lt, option_map}
 use Rattle.std.proofs.lemmas.Bool.Decides.{nat_tests}
 use Rattle.inc_md.specs.Staying.{in_counts}
 use Rattle.inc_md.specs.declared.records.StatusRecord.{StatusRecord}
-use Rattle.inc_disk.specs.Disk.{DiskState, IsImage, Now, SoundNow, overwritten, reads_of, settled, Syncs}
-use Rattle.inc_disk.specs.Laws.{EachImage, Goes}
+use Rattle.inc_disk.specs.Disk.{DiskState, IsImage, MayHaveLeft, Now, SoundNow, overwritten, reads_of, settled, Syncs}
+use Rattle.inc_disk.specs.Laws.{EachImage, Goes, LeavesOnly}
 use Rattle.inc_disk.proofs.Moments.{joined, settled_image, started, stays, sync_goes, weaker}
 use Rattle.inc_disk.proofs.States.{torn_overwritten}
 use Rattle.inc_layout.specs.Backing.{IsBackingFile, fixed_in, opened_of}
-use Rattle.inc_layout.specs.Faults.{GivesFault}
-use Rattle.inc_layout.specs.Opening.{GivesOpened}
+use Rattle.inc_layout.specs.Faults.{GivesLayoutFault, GivesOpening}
+use Rattle.inc_layout.specs.Reopening.{IsMountedOn}
 use Rattle.inc_layout.specs.declared.fault.LayoutFault.{LayoutFault}
 use Rattle.inc_layout.specs.declared.fault.LayoutFault.TheVariants.{TooLong, ReadFault, OutOfMemory as NoMemory}
 use Rattle.inc_layout.specs.declared.opened.Opened.{Opened}
 use Rattle.inc_layout.proofs.BackingMeaning.{backing_stands}
 use Rattle.inc_fill.specs.Steps.{count_bytes}
 use Rattle.inc_fill.proofs.Going.{length-count_bytes}
-use Rattle.inc_recover.specs.Mounting.{DiffersAt, GivesMountFault, HasOtherCounts, IsMountedOn, IsSameButCounts, MayBeLeftBy, Mends, Mounts, StaysUntold, counted, layout_of, mount_fault, open_data, open_hash, status_with}
-use Rattle.inc_recover.specs.declared.fault.MountFault.TheVariants.{DiskFault}
+use Rattle.inc_recover.specs.Mounting.{DiffersAt, GivesMountFault, HasOtherCounts, IsCutAtSync, IsOnlySynced, IsSameButCounts, IsUnwritten, MayBeLeftBy, Mends, Mounts, StaysUntold, counted, layout_of, mount_fault, open_data, open_hash, status_with}
+use Rattle.inc_recover.specs.declared.fault.MountFault.{MountFault}
+use Rattle.inc_recover.specs.declared.fault.MountFault.TheVariants.{Layout, DiskFault, OutOfMemory}
 use Rattle.inc_recover.proofs.CountWrites.{CountsGo, goes_weaker, now_weaker}
 use Rattle.inc_recover.proofs.CountsStand.{OthersSame, counted_stands, counts_inside, still_stands}
 
 -- ---- where nothing has to be written
 
-none_counted : (opened : Opened) → opened.records.status ≡ None → counted opened ≡ opened
-none_counted opened none =
-    let status : option_map (status_with (open_data opened) (open_hash opened)) opened.records.status ≡ opened.records.status =
-    ap (option_map (status_with (open_data opened) (open_hash opened))) none ∙ sym none in
-    λ d. record {
-      header = opened.header;
-      records = record { map = opened.records.map; signature = opened.records.signature; status = status d; spans = opened.records.spans; last = opened.records.last };
-      sig = opened.sig;
-      areas = opened.areas;
-      classes = opened.classes;
-      digests = opened.digests;
-      len = opened.len;
-    }
-
--- a status record is inside a file that tells its bytes
-same_counts : (bytes : List ℕ) (opened : Opened) → IsBackingFile bytes opened → (status : Option StatusRecord) → opened.records.status ≡ status
-    → (counted opened ≡ opened) ⊎ IfSome status (λ found. opened.len < found.at) → counted opened ≡ opened
-same_counts bytes opened stands status is (inl same) = same
-same_counts bytes opened stands None is (inr outside) = none_counted opened is
-same_counts bytes opened stands (Some found) is (inr outside) =
-    let inside = counts_inside bytes (fixed_in opened) found stands.fixed is in
-    absurd (omega (arith, inside, outside, stands.len_is))
-
 abbrev IsMended : List ℕ → Opened → DiskState → Type 0
-IsMended bytes opened disk = IsMountedOn (counted opened) disk × IsSameButCounts bytes disk.reads
+IsMended bytes opened disk = IsMountedOn settled (counted opened) disk × IsSameButCounts bytes disk.reads
 
 settled_mended : (bytes : List ℕ) (opened : Opened) (disk : DiskState) → IsBackingFile bytes opened → counted opened ≡ opened → disk ≡ settled bytes → IsMended bytes opened disk
 settled_mended bytes opened disk stands same is =
@@ -60,14 +38,17 @@ settled_images bytes old has = now_weaker old (λ disk. disk ≡ settled bytes) 
     one : (disk : DiskState) (image : List ℕ) → disk ≡ settled bytes → IsImage disk image → image ≡ bytes
     one disk image is left = settled_image bytes image (subst (λ (d : DiskState). IsImage d image) is left)
 
-pub none_mends : {E : Type 0} (opened : Opened) (old : List DiskState) → (counted opened ≡ opened) ⊎ IfSome opened.records.status (λ status. opened.len < status.at) → Mends {E = E} opened old old (Ok tt)
-none_mends opened old none bytes stands has =
-    let same = same_counts bytes opened stands opened.records.status refl none in
+pub none_mends : {E : Type 0} (opened : Opened) (old : List DiskState) → counted opened ≡ opened → Mends {E = E} opened old old (Ok tt)
+none_mends opened old same bytes stands has =
     record {
       ok = now_weaker old (λ disk. disk ≡ settled bytes) (IsMended bytes opened) (λ disk is. settled_mended bytes opened disk stands same is) has;
       err = tt;
       moments = started old (IsSameButCounts bytes) (settled_images bytes old has);
     }
+
+-- counts that are right aren't others
+pub not_needed : (opened : Opened) (status : StatusRecord) → counted opened ≡ opened → (counted opened).records.status ≡ Some status → (opened.records.status ≡ Some status → ⊥) → ⊥
+not_needed opened status right is other = other (sym (ap (λ (o : Opened). o.records.status) right) ∙ is)
 
 -- ---- where the counts are written
 
@@ -106,7 +87,7 @@ written_mended bytes opened status disk stands is data_small hash_small fits sta
     let piece : List ℕ = count_bytes (open_data opened) (open_hash opened) in
     let differs = written_differs status.at piece bytes (length-count_bytes (open_data opened) (open_hash opened)) fits in
     let others = others_same bytes (overwritten status.at piece bytes) status opened.records.status is differs in
-    let still = still_stands bytes (overwritten status.at piece bytes) (fixed_in opened) stands.fixed differs.len_is others in
+    let still = still_stands bytes (overwritten status.at piece bytes) (fixed_in opened) stands.laid.fixed differs.len_is others in
     let counts = counted_stands bytes opened status (overwritten status.at piece bytes) stands differs.len_is still is data_small hash_small (omega (arith, fits)) refl in
     let same : IsSameButCounts bytes (overwritten status.at piece bytes) = inr (has_other_counts bytes (overwritten status.at piece bytes) opened status stands is differs) in
     (record { bytes = overwritten status.at piece bytes; state_is = state; stands = counts }, subst (λ (d : DiskState). IsSameButCounts bytes d.reads) (sym state) same)
@@ -124,7 +105,7 @@ some_mends {E = E} opened status old new result is data_small hash_small counts 
     subst (λ (s : StatusRecord). Counts {E = E} s old new result) (sym found.2) counts in
     let data_was : open_data opened < 2 ^ 32 = subst (λ (s : StatusRecord). s.data_written < 2 ^ 32) (sym found.2) data_small in
     let hash_was : open_hash opened < 2 ^ 32 = subst (λ (s : StatusRecord). s.hash_written < 2 ^ 32) (sym found.2) hash_small in
-    let fits = counts_inside bytes (fixed_in opened) was stands.fixed found.1 in
+    let fits = counts_inside bytes (fixed_in opened) was stands.laid.fixed found.1 in
     goes_weaker old new result (λ disk. disk ≡ settled (overwritten was.at (count_bytes (open_data opened) (open_hash opened)) bytes)) (IsMended bytes opened)
     (λ disk. DiffersAt was.at bytes disk.reads) (λ disk. IsSameButCounts bytes disk.reads) (DiffersAt was.at bytes) (IsSameButCounts bytes)
     (λ disk state. written_mended bytes opened was disk stands found.1 data_was hash_was fits state)
@@ -141,14 +122,14 @@ short_layout false bytes opened e = absurd cc
 pub layout_backing : (bytes : List ℕ) (opened : Opened) → layout_of bytes ≡ Ok opened → IsBackingFile bytes opened
 layout_backing bytes opened e = backing_stands bytes opened (short_layout (nat_le (length bytes) (2 ^ 46)) bytes opened e)
 
-gives_mount : (fault : LayoutFault) (wanted : Result Opened LayoutFault) → GivesFault fault wanted → GivesMountFault (mount_fault fault) wanted
+gives_mount : (fault : LayoutFault) (wanted : Result Opened LayoutFault) → GivesLayoutFault fault wanted → GivesMountFault (mount_fault fault) wanted
 gives_mount ReadFault wanted given = tt
 gives_mount NoMemory wanted given = tt
 gives_mount fault wanted given = given
 
-pub opened_len : (told : Option (List ℕ)) (opened : Opened) → IfSome told (λ bytes. GivesOpened (Ok opened) (layout_of bytes)) → IfSome told (λ bytes. opened.len ≡ length bytes)
+pub opened_len : (told : Option (List ℕ)) (opened : Opened) → IfSome told (λ bytes. GivesOpening (Ok opened) (layout_of bytes)) → IfSome told (λ bytes. opened.len ≡ length bytes)
 opened_len None opened given = tt
-opened_len (Some bytes) opened given = (layout_backing bytes opened given).len_is
+opened_len (Some bytes) opened given = (layout_backing bytes opened given).laid.len_is
 
 -- ---- the whole
 
@@ -157,6 +138,13 @@ first_sync : {T E : Type 0} (disk : DiskState) (past new : List DiskState) (resu
 first_sync disk past new result sound syncs =
     sync_goes (disk ∷ past) new result (λ state. state ≡ settled disk.reads) (λ state. state.reads ≡ disk.reads) (MayBeLeftBy (disk ∷ past) disk.reads) syncs sound refl
     (λ image is. inl (inl (omega arith, is))) (λ state is same. ap settled same)
+
+-- before a sync has succeeded each image is an old one
+unsynced : {T E : Type 0} (disk : DiskState) (past new : List DiskState) (result : Result T E) → SoundNow (disk ∷ past) → Syncs (disk ∷ past) new result
+    → LeavesOnly (disk ∷ past) new (MayHaveLeft (length (disk ∷ past)) (disk ∷ past))
+unsynced disk past new result sound syncs =
+    (sync_goes (disk ∷ past) new result (λ state. Unit {0}) (λ state. Unit {0}) (MayHaveLeft (length (disk ∷ past)) (disk ∷ past)) syncs sound tt
+    (λ image is. inl (omega arith, is)) (λ state is same. tt)).moments
 
 pub sync_fails : (T : Type 0) {E : Type 0} (old new : List DiskState) (fault : E) → SoundNow old → Syncs {T = T} old new (Err fault) → Now old (λ state. Mounts old new (Err DiskFault) state.reads)
 sync_fails T [] new fault sound syncs = tt
@@ -167,23 +155,36 @@ sync_fails T (disk ∷ past) new fault sound syncs =
       opened = tt;
       same = now_weaker new (λ state. state.reads ≡ disk.reads) (λ state. IsSameButCounts disk.reads state.reads) (λ state same. inl same) goes.err;
       moments = goes.moments;
+      since = inl (refl, unsynced {T = T} disk past new (Err fault) sound syncs);
+      unwritten = tt;
     }
+
+-- a disk that was settled, and nothing since
+just_settled : (bytes : List ℕ) (old : List DiskState) → LeavesOnly (settled bytes ∷ old) (settled bytes ∷ old) (IsSameButCounts bytes)
+just_settled bytes old = started (settled bytes ∷ old) (IsSameButCounts bytes) (λ image is. inl (settled_image bytes image is))
 
 -- what the file tells after the sync is what it told before
 told_settled : (E : Type 0) (disk : DiskState) (past mid : List DiskState) (told : Option (List ℕ)) (P : List ℕ → Type 0) → Syncs {T = Unit {0}} {E = E} (disk ∷ past) mid (Ok tt)
     → told ≡ reads_of mid → IfSome told P → P disk.reads
 told_settled E disk past mid told P syncs is has = subst (λ (t : Option (List ℕ)). IfSome t P) (is ∙ ap reads_of syncs) has
 
+fault_unwritten : (old new : List DiskState) (bytes : List ℕ) (fault : MountFault) → IsOnlySynced old new bytes → IsUnwritten old new bytes (Err fault)
+fault_unwritten old new bytes (Layout fault) only = only
+fault_unwritten old new bytes DiskFault only = tt
+fault_unwritten old new bytes OutOfMemory only = only
+
 pub open_fails : (E : Type 0) (old mid new : List DiskState) (told : Option (List ℕ)) (fault : LayoutFault) → SoundNow old → Syncs {T = Unit {0}} {E = E} old mid (Ok tt) → new ≡ mid → told ≡ reads_of mid
-    → IfSome told (λ bytes. GivesOpened (Err fault) (layout_of bytes)) → Now old (λ state. Mounts old new (Err (mount_fault fault)) state.reads)
+    → IfSome told (λ bytes. GivesOpening (Err fault) (layout_of bytes)) → Now old (λ state. Mounts old new (Err (mount_fault fault)) state.reads)
 open_fails E [] mid new told fault sound syncs same is given = tt
 open_fails E (disk ∷ past) mid new told fault sound syncs same is given =
     let goes = first_sync {T = Unit {0}} {E = E} disk past mid (Ok tt) sound syncs in
     record {
-      answer = gives_mount fault (layout_of disk.reads) (told_settled E disk past mid told (λ bytes. GivesOpened (Err fault) (layout_of bytes)) syncs is given);
+      answer = gives_mount fault (layout_of disk.reads) (told_settled E disk past mid told (λ bytes. GivesOpening (Err fault) (layout_of bytes)) syncs is given);
       opened = tt;
       same = subst (λ (states : List DiskState). Now states (λ state. IsSameButCounts disk.reads state.reads)) (sym (same ∙ syncs)) (inl refl);
       moments = stays (disk ∷ past) mid new (MayBeLeftBy (disk ∷ past) disk.reads) goes.moments same;
+      since = inr (subst (λ (states : List DiskState). LeavesOnly (settled disk.reads ∷ (disk ∷ past)) states (IsSameButCounts disk.reads)) (sym (same ∙ syncs)) (just_settled disk.reads (disk ∷ past)));
+      unwritten = fault_unwritten (disk ∷ past) new disk.reads (mount_fault fault) (same ∙ syncs);
     }
 
 -- the two runs of a mount that opened the file
@@ -197,27 +198,52 @@ both_runs {E = E} disk past mid between new told opened result sound syncs same 
     let moments = weaker mid new (IsSameButCounts disk.reads) (MayBeLeftBy (disk ∷ past) disk.reads) second.moments (λ image has. inr has) in
     record { ok = second.ok; err = second.err; moments = joined (disk ∷ past) mid new (MayBeLeftBy (disk ∷ past) disk.reads) first.moments moments }
 
+-- since the first sync only the counts are others
+mended_since : {E : Type 0} (disk : DiskState) (past mid between new : List DiskState) (opened : Opened) (result : Result (Unit {0}) E)
+    → Syncs {T = Unit {0}} {E = E} (disk ∷ past) mid (Ok tt) → between ≡ mid → Mends opened between new result → IsBackingFile disk.reads opened
+    → LeavesOnly (settled disk.reads ∷ (disk ∷ past)) new (IsSameButCounts disk.reads)
+mended_since {E = E} disk past mid between new opened result syncs same mends stands =
+    let after : Mends opened (settled disk.reads ∷ (disk ∷ past)) new result = subst (λ (states : List DiskState). Mends opened states new result) (same ∙ syncs) mends in
+    (after disk.reads stands refl).moments
+
 pub mend_fails : {E : Type 0} (old mid between new : List DiskState) (told : Option (List ℕ)) (opened : Opened) (fault : E) → SoundNow old → Syncs {T = Unit {0}} {E = E} old mid (Ok tt) → between ≡ mid → told ≡ reads_of mid
-    → IfSome told (λ bytes. GivesOpened (Ok opened) (layout_of bytes)) → Mends opened between new (Err fault) → Now old (λ state. Mounts old new (Err DiskFault) state.reads)
+    → IfSome told (λ bytes. GivesOpening (Ok opened) (layout_of bytes)) → Mends opened between new (Err fault) → Now old (λ state. Mounts old new (Err DiskFault) state.reads)
 mend_fails [] mid between new told opened fault sound syncs same is given mends = tt
 mend_fails {E = E} (disk ∷ past) mid between new told opened fault sound syncs same is given mends =
-    let layout = told_settled E disk past mid told (λ bytes. GivesOpened (Ok opened) (layout_of bytes)) syncs is given in
+    let layout = told_settled E disk past mid told (λ bytes. GivesOpening (Ok opened) (layout_of bytes)) syncs is given in
     let goes = both_runs disk past mid between new told opened (Err fault) sound syncs same mends (layout_backing disk.reads opened layout) in
-    record { answer = tt; opened = tt; same = goes.err; moments = goes.moments }
+    record {
+      answer = tt;
+      opened = tt;
+      same = goes.err;
+      moments = goes.moments;
+      since = inr (mended_since disk past mid between new opened (Err fault) syncs same mends (layout_backing disk.reads opened layout));
+      unwritten = tt;
+    }
+
+same_right : {r : Result Opened LayoutFault} (found other : Opened) → r ≡ Ok found → r ≡ Ok other → counted other ≡ other → counted found ≡ found
+same_right found other is also right = let same : other ≡ found = cc in subst (λ (o : Opened). counted o ≡ o) same right
 
 pub mounted : {E : Type 0} (old mid between new : List DiskState) (told : Option (List ℕ)) (opened found : Opened) → SoundNow old → Syncs {T = Unit {0}} {E = E} old mid (Ok tt) → between ≡ mid → told ≡ reads_of mid
-    → IfSome told (λ bytes. GivesOpened (Ok found) (layout_of bytes)) → opened ≡ counted found → Mends {E = E} found between new (Ok tt) → Now old (λ state. Mounts old new (Ok opened) state.reads)
-mounted [] mid between new told opened found sound syncs same is given counts mends = tt
-mounted {E = E} (disk ∷ past) mid between new told opened found sound syncs same is given counts mends =
-    let layout = told_settled E disk past mid told (λ bytes. GivesOpened (Ok found) (layout_of bytes)) syncs is given in
+    → IfSome told (λ bytes. GivesOpening (Ok found) (layout_of bytes)) → opened ≡ counted found → Mends {E = E} found between new (Ok tt) → (counted found ≡ found → new ≡ between)
+    → Now old (λ state. Mounts old new (Ok opened) state.reads)
+mounted [] mid between new told opened found sound syncs same is given counts mends right = tt
+mounted {E = E} (disk ∷ past) mid between new told opened found sound syncs same is given counts mends right =
+    let layout = told_settled E disk past mid told (λ bytes. GivesOpening (Ok found) (layout_of bytes)) syncs is given in
     let goes = both_runs disk past mid between new told found (Ok tt) sound syncs same mends (layout_backing disk.reads found layout) in
     record {
       answer = record { found = found; wanted_is = layout; counted_is = counts };
-      opened = subst (λ (o : Opened). Now new (IsMountedOn o)) (sym counts) (now_weaker new (IsMended disk.reads found) (IsMountedOn (counted found)) (λ state has. has.0) goes.ok);
+      opened = subst (λ (o : Opened). Now new (IsMountedOn settled o)) (sym counts) (now_weaker new (IsMended disk.reads found) (IsMountedOn settled (counted found)) (λ state has. has.0) goes.ok);
       same = now_weaker new (IsMended disk.reads found) (λ state. IsSameButCounts disk.reads state.reads) (λ state has. has.1) goes.ok;
       moments = goes.moments;
+      since = inr (mended_since disk past mid between new found (Ok tt) syncs same mends (layout_backing disk.reads found layout));
+      unwritten = λ other told_other right_other. right (same_right found other layout told_other right_other) ∙ same ∙ syncs;
     }
 
-pub opened_now : (old new : List DiskState) (opened : Opened) → StaysUntold old new → Now old (λ state. Mounts old new (Ok opened) state.reads) → Now new (IsMountedOn opened)
-opened_now [] new opened untold mounts = subst (λ (states : List DiskState). Now states (IsMountedOn opened)) (sym (untold refl)) tt
+pub opened_now : (old new : List DiskState) (opened : Opened) → StaysUntold old new → Now old (λ state. Mounts old new (Ok opened) state.reads) → Now new (IsMountedOn settled opened)
+opened_now [] new opened untold mounts = subst (λ (states : List DiskState). Now states (IsMountedOn settled opened)) (sym (untold refl)) tt
 opened_now (disk ∷ past) new opened untold mounts = mounts.opened
+
+pub cut_now : (old new : List DiskState) (result : Result Opened MountFault) → Now old (λ state. Mounts old new result state.reads) → Now old (λ state. IsCutAtSync old new state.reads result)
+cut_now [] new result mounts = tt
+cut_now (disk ∷ past) new result mounts = mounts.since

@@ -3,23 +3,24 @@ use Rattle.std.proofs.Common.{◌≡◌, ◌⊎◌, inl, inr, ⊎_elim, ℕ, ◌
 use Rattle.std.specs.Prelude.{IfOk, IfErr, is_some, slice_index_or}
 use Rattle.std.proofs.lemmas.Bool.{cases_lt, le-leb}
 use Rattle.std.proofs.lemmas.List.{get_or_default, get_or_past}
-use Rattle.inc_tree.specs.Geometry.{data_blocks, hash_blocks}
-use Rattle.inc_entry.specs.Entry.{Places, entries, places_of}
+use Rattle.inc_entry.specs.Entry.{Places, entries, area_places}
 use Rattle.inc_entry.specs.declared.classes.Class.{Class}
 use Rattle.inc_entry.specs.declared.classes.Class.TheVariants.{Closed, Compressed, Damaged, OpenAt}
-use Rattle.inc_disk.specs.Disk.{DiskState, IsImage, Now, SoundNow}
+use Rattle.inc_disk.specs.Disk.{DiskState, IsImage, Now, SoundNow, settled}
 use Rattle.inc_disk.specs.Laws.{EachImage, LeavesOnly}
 use Rattle.inc_disk.proofs.Moments.{settled_image, started, weaker}
-use Rattle.inc_layout.specs.Backing.{IsBackingFile, class_at, digest_of, fixed_in, opened_of, stored_digest}
-use Rattle.inc_layout.specs.Keeps.{KeepsEntry, Kind, Acknowledged, Begun, KeptDamaged, KeptCompressed, Shut, has_index, kind_of, kind_with, row_of, unfilled_kind}
-use Rattle.inc_layout.specs.Opening.{is_open_class}
-use Rattle.inc_layout.specs.Preserves.{MayReopen, Preserves, StateParts, kind_in}
+use Rattle.inc_entry.specs.Keeps.{KeepsEntry, Kind, Acknowledged, Begun, KeptDamaged, KeptCompressed, Shut}
+use Rattle.inc_entry.specs.Stored.{class_at, digest_of, is_compressed_class, is_damaged_class, is_open_class, stored_digest}
+use Rattle.inc_layout.specs.Backing.{IsBackingFile, fixed_in, opened_of}
+use Rattle.inc_layout.specs.Preserves.{MayReopen, Preserves}
+use Rattle.inc_layout.specs.Reopening.{AreApartIn, AreOpened, IsMountedOn}
+use Rattle.inc_layout.specs.State.{IsStateOf, StateParts, has_index, kind_in, kind_of, kind_with, row_digest, unfilled_kind}
 use Rattle.inc_layout.specs.declared.fault.LayoutFault.{LayoutFault}
 use Rattle.inc_layout.specs.declared.fault.LayoutFault.TheVariants.{TooLong, ReadFault, OutOfMemory as NoMemory}
 use Rattle.inc_layout.specs.declared.opened.Opened.{Opened}
 use Rattle.inc_layout.proofs.BackingMeaning.{stands_backing}
-use Rattle.inc_recover.specs.Mounting.{GivesMountFault, HasOtherCounts, IsMountedOn, IsSameButCounts, MayBeLeftBy, Mounts, StaysUntold, counted, layout_of}
-use Rattle.inc_recover.specs.Reopening.{AreApartIn, AreOpened, IsOutsideFault, Reopens, is_compressed, is_damaged}
+use Rattle.inc_recover.specs.Mounting.{GivesMountFault, HasOtherCounts, IsSameButCounts, MayBeLeftBy, Mounts, StaysUntold, counted, layout_of}
+use Rattle.inc_recover.specs.Reopening.{IsOutsideFault, Reopens}
 use Rattle.inc_recover.specs.declared.fault.MountFault.{MountFault}
 use Rattle.inc_recover.specs.declared.fault.MountFault.TheVariants.{Layout, DiskFault, OutOfMemory}
 use Rattle.inc_recover.proofs.CountsStand.{OthersSame, opened_again, reopened, still_stands}
@@ -34,13 +35,8 @@ one_opened : (bytes : List ℕ) (opened other : Opened) → IsBackingFile bytes 
 one_opened bytes opened other stands also = one_ok opened other (opened_of bytes) (stands_backing bytes opened stands) (stands_backing bytes other also)
 
 -- the indices of the state are those of the file
-all_entries : (bytes : List ℕ) (opened : Opened) (data_count hash_count : ℕ) → IsBackingFile bytes opened → data_blocks opened.header.size ≡ data_count → hash_blocks opened.header.size ≡ hash_count
-    → entries (places_of opened.areas) ≡ data_count + hash_count
-all_entries bytes opened data_count hash_count stands data_is hash_is =
-    let size : opened.areas.geometry ≡ opened.header.size = ap (λ (p : Places). p.size) stands.fixed.placed in
-    let content : data_blocks opened.areas.geometry ≡ data_blocks opened.header.size = ap data_blocks size in
-    let hash : hash_blocks opened.areas.geometry ≡ hash_blocks opened.header.size = ap hash_blocks size in
-    omega (arith, data_is, hash_is, content, hash)
+all_entries : (opened : Opened) (parts : StateParts) → IsStateOf opened parts → entries (area_places opened.areas) ≡ parts.data_count + parts.hash_count
+all_entries opened parts state = omega (arith, state.data_is, state.hash_is)
 
 -- ---- other counts keep the state
 
@@ -58,17 +54,14 @@ others_preserve bytes other parts keeps has =
     let opened : Opened = keeps.opened in
     let same : OthersSame opened.records.status bytes other =
     subst (λ (o : Opened). OthersSame o.records.status bytes other) (one_opened bytes has.opened opened has.stands keeps.stands) has.same in
-    let still = still_stands bytes other (fixed_in opened) keeps.stands.fixed has.len_is same in
-    let count = all_entries bytes opened parts.data_count parts.hash_count keeps.stands keeps.data_is keeps.hash_is in
+    let still = still_stands bytes other (fixed_in opened) keeps.stands.laid.fixed has.len_is same in
+    let count = all_entries opened parts keeps.state in
     record {
       opened = reopened opened still.found.records;
       stands = opened_again bytes other opened keeps.stands has.len_is still;
-      id_is = keeps.id_is;
-      root_is = keeps.root_is;
-      data_is = keeps.data_is;
-      hash_is = keeps.hash_is;
-      each = λ i lt. let here : i < entries (places_of opened.areas) = omega (arith, count, lt) in
-          same_keeps (places_of opened.areas) bytes other i (kind_in parts i) (still.class_is i here) (still.digest_is i here) (keeps.each i lt);
+      state = record { id_is = keeps.state.id_is; root_is = keeps.state.root_is; data_is = keeps.state.data_is; hash_is = keeps.state.hash_is };
+      each = λ i lt. let here : i < entries (area_places opened.areas) = omega (arith, count, lt) in
+          same_keeps (area_places opened.areas) bytes other i (kind_in parts i) (still.class_is i here) (still.digest_is i here) (keeps.each i lt);
     }
 
 same_preserves : (bytes other : List ℕ) (parts : StateParts) → Preserves bytes parts → IsSameButCounts bytes other → Preserves other parts
@@ -84,42 +77,39 @@ moments_keep disk past new parts each reads moments =
 -- ---- what the mounted file keeps
 
 own_kind : (places : Places) (bytes : List ℕ) (i : ℕ) (class : Class) → class_at places bytes i ≡ class
-    → KeepsEntry places bytes i (kind_with (digest_of places bytes i class) None (unfilled_kind (is_damaged class) (is_compressed class)))
+    → KeepsEntry places bytes i (kind_with (digest_of places bytes i class) None (unfilled_kind (is_damaged_class class) (is_compressed_class class)))
 own_kind places bytes i (OpenAt place size) is = ap (digest_of places bytes i) is
 own_kind places bytes i Compressed is = is
 own_kind places bytes i Damaged is = is
 own_kind places bytes i Closed is = is
 
-kind_is : (parts : StateParts) (i : ℕ) → kind_in parts i ≡ kind_with (row_of parts.acknowledged i) (row_of parts.begun i) (unfilled_kind (has_index parts.damaged i) (has_index parts.compressed i))
+kind_is : (parts : StateParts) (i : ℕ) → kind_in parts i ≡ kind_with (row_digest parts.acknowledged i) (row_digest parts.begun i) (unfilled_kind (has_index parts.damaged i) (has_index parts.compressed i))
 unfolding kind_of
 kind_is parts i = refl
 
 -- the class and the digest of an index, as the file tells them
-class_told : (bytes : List ℕ) (opened : Opened) (i : ℕ) → IsBackingFile bytes opened → i < entries (places_of opened.areas) → slice_index_or opened.classes i Closed ≡ class_at (places_of opened.areas) bytes i
-class_told bytes opened i stands lt = get_or_default opened.classes i Closed Damaged (omega (arith, stands.class_count, lt)) ∙ stands.each_class i lt
+class_told : (bytes : List ℕ) (opened : Opened) (i : ℕ) → IsBackingFile bytes opened → i < entries (area_places opened.areas) → slice_index_or opened.classes i Closed ≡ class_at (area_places opened.areas) bytes i
+class_told bytes opened i stands lt = get_or_default opened.classes i Closed Damaged (omega (arith, stands.laid.class_count, lt)) ∙ stands.laid.each_class i lt
 
 own_preserves : (bytes : List ℕ) (opened : Opened) (after : StateParts) → IsBackingFile bytes opened → AreOpened opened after → Preserves bytes after
 own_preserves bytes opened after stands own =
-    let places : Places = places_of opened.areas in
-    let count = all_entries bytes opened after.data_count after.hash_count stands own.state.data_is own.state.hash_is in
+    let places : Places = area_places opened.areas in
+    let count = all_entries opened after own.state in
     record {
       opened = opened;
       stands = stands;
-      id_is = own.state.id_is;
-      root_is = own.state.root_is;
-      data_is = own.state.data_is;
-      hash_is = own.state.hash_is;
+      state = own.state;
       each = λ i lt. let here : i < entries places = omega (arith, count, lt) in
           let class = class_told bytes opened i stands here in
           let ack = own.acknowledged_is i ∙ stands.each_digest i here in
-          let begun : row_of after.begun i ≡ None = ap (λ (rows : List (ℕ × List ℕ)). row_of rows i) own.none_begun in
-          let damaged = own.damaged_is i ∙ ap is_damaged class in
-          let compressed = own.compressed_is i ∙ ap is_compressed class in
+          let begun : row_digest after.begun i ≡ None = ap (λ (rows : List (ℕ × List ℕ)). row_digest rows i) own.none_begun in
+          let damaged = own.damaged_is i ∙ ap is_damaged_class class in
+          let compressed = own.compressed_is i ∙ ap is_compressed_class class in
           let kind = kind_is after i ∙ (λ d. kind_with (ack d) (begun d) (unfilled_kind (damaged d) (compressed d))) in
           subst (λ (k : Kind). KeepsEntry places bytes i k) (sym kind) (own_kind places bytes i (class_at places bytes i) refl);
     }
 
-mounted_keeps : (opened : Opened) (after : StateParts) (states : List DiskState) → AreOpened opened after → Now states (IsMountedOn opened) → Now states (λ disk. EachImage disk (λ image. Preserves image after))
+mounted_keeps : (opened : Opened) (after : StateParts) (states : List DiskState) → AreOpened opened after → Now states (IsMountedOn settled opened) → Now states (λ disk. EachImage disk (λ image. Preserves image after))
 mounted_keeps opened after [] own has = tt
 mounted_keeps opened after (disk ∷ past) own has = λ image is.
     let one : image ≡ has.bytes = settled_image has.bytes image (subst (λ (d : DiskState). IsImage d image) has.state_is is) in
@@ -129,8 +119,8 @@ mounted_keeps opened after (disk ∷ past) own has = λ image is.
 
 -- an entry against the groups that its index was in
 record EntryReopens (ack begun : Option (List ℕ)) (damaged compressed : Bool) (class : Class) (stored : Option (List ℕ)) : Type 0 where
-  damaged_is : is_damaged class ≡ damaged
-  compressed_is : is_compressed class ≡ compressed
+  damaged_is : is_damaged_class class ≡ damaged
+  compressed_is : is_compressed_class class ≡ compressed
   at_least : (digest : List ℕ) → ack ≡ Some digest → stored ≡ Some digest
   at_most : (digest : List ℕ) → stored ≡ Some digest → (ack ≡ Some digest) ⊎ (begun ≡ Some digest)
 
@@ -154,7 +144,7 @@ stored_open places bytes i Compressed = refl
 stored_open places bytes i Damaged = refl
 stored_open places bytes i Closed = refl
 
-open_neither : (class : Class) (stored : Option (List ℕ)) (digest : List ℕ) → is_some stored ≡ is_open_class class → stored ≡ Some digest → (is_damaged class ≡ false) × (is_compressed class ≡ false)
+open_neither : (class : Class) (stored : Option (List ℕ)) (digest : List ℕ) → is_some stored ≡ is_open_class class → stored ≡ Some digest → (is_damaged_class class ≡ false) × (is_compressed_class class ≡ false)
 open_neither (OpenAt place size) stored digest both is = (refl, refl)
 open_neither Compressed stored digest both is = absurd cc
 open_neither Damaged stored digest both is = absurd cc
@@ -192,14 +182,14 @@ entry_reopens None (Some digest) damaged compressed class stored both alone apar
       at_most = λ other is. inr (sym fits ∙ is);
     }
 entry_reopens None (Some digest) damaged compressed class stored both alone apart (inr closed) = record {
-  damaged_is = ap is_damaged closed ∙ sym (not_set damaged None (Some digest) digest (inr refl) alone);
-  compressed_is = ap is_compressed closed ∙ sym (not_set compressed None (Some digest) digest (inr refl) (λ set. let all = apart set in (all.0, all.1)));
+  damaged_is = ap is_damaged_class closed ∙ sym (not_set damaged None (Some digest) digest (inr refl) alone);
+  compressed_is = ap is_compressed_class closed ∙ sym (not_set compressed None (Some digest) digest (inr refl) (λ set. let all = apart set in (all.0, all.1)));
   at_least = λ other is. absurd cc;
   at_most = λ other is. absurd (closed_none class stored other both (ap is_open_class closed) is);
 }
 entry_reopens None None true compressed class stored both alone apart fits = record {
-  damaged_is = ap is_damaged fits;
-  compressed_is = ap is_compressed fits ∙ sym (unless compressed apart);
+  damaged_is = ap is_damaged_class fits;
+  compressed_is = ap is_compressed_class fits ∙ sym (unless compressed apart);
   at_least = λ other is. absurd cc;
   at_most = λ other is. absurd (closed_none class stored other both (ap is_open_class fits) is);
 }
@@ -208,28 +198,28 @@ entry_reopens None None true compressed class stored both alone apart fits = rec
     unless false so = refl
     unless true so = let no = (so refl).2 in absurd cc
 entry_reopens None None false true class stored both alone apart fits = record {
-  damaged_is = ap is_damaged fits;
-  compressed_is = ap is_compressed fits;
+  damaged_is = ap is_damaged_class fits;
+  compressed_is = ap is_compressed_class fits;
   at_least = λ other is. absurd cc;
   at_most = λ other is. absurd (closed_none class stored other both (ap is_open_class fits) is);
 }
 entry_reopens None None false false class stored both alone apart fits = record {
-  damaged_is = ap is_damaged fits;
-  compressed_is = ap is_compressed fits;
+  damaged_is = ap is_damaged_class fits;
+  compressed_is = ap is_compressed_class fits;
   at_least = λ other is. absurd cc;
   at_most = λ other is. absurd (closed_none class stored other both (ap is_open_class fits) is);
 }
 
 -- each entry of a file that keeps the state
 each_reopens : (bytes : List ℕ) (parts : StateParts) (keeps : Preserves bytes parts) (i : ℕ) → AreApartIn parts → i < parts.data_count + parts.hash_count
-    → EntryReopens (row_of parts.acknowledged i) (row_of parts.begun i) (has_index parts.damaged i) (has_index parts.compressed i)
-    (class_at (places_of keeps.opened.areas) bytes i) (stored_digest (places_of keeps.opened.areas) bytes i)
+    → EntryReopens (row_digest parts.acknowledged i) (row_digest parts.begun i) (has_index parts.damaged i) (has_index parts.compressed i)
+    (class_at (area_places keeps.opened.areas) bytes i) (stored_digest (area_places keeps.opened.areas) bytes i)
 each_reopens bytes parts keeps i apart lt =
-    let places : Places = places_of keeps.opened.areas in
+    let places : Places = area_places keeps.opened.areas in
     let kept = subst (λ (k : Kind). KeepsEntry places bytes i k) (kind_is parts i) (keeps.each i lt) in
-    entry_reopens (row_of parts.acknowledged i) (row_of parts.begun i) (has_index parts.damaged i) (has_index parts.compressed i) (class_at places bytes i) (stored_digest places bytes i)
+    entry_reopens (row_digest parts.acknowledged i) (row_digest parts.begun i) (has_index parts.damaged i) (has_index parts.compressed i) (class_at places bytes i) (stored_digest places bytes i)
     (stored_open places bytes i (class_at places bytes i)) (apart.damaged_alone i) (apart.compressed_alone i)
-    (fits_kind places bytes i (kind_with (row_of parts.acknowledged i) (row_of parts.begun i) (unfilled_kind (has_index parts.damaged i) (has_index parts.compressed i))) kept)
+    (fits_kind places bytes i (kind_with (row_digest parts.acknowledged i) (row_digest parts.begun i) (unfilled_kind (has_index parts.damaged i) (has_index parts.compressed i))) kept)
 
 -- no index past the file's is in a group
 none_set : (flag : Bool) (i count : ℕ) → count ≤ i → (flag ≡ true → i < count) → flag ≡ false
@@ -247,19 +237,19 @@ may_reopen bytes opened parts after apart keeps is own_given =
     let own = subst (λ (o : Opened). AreOpened o after) (sym is) own_given in
     let told : Opened = keeps.opened in
     let total : ℕ = parts.data_count + parts.hash_count in
-    let count = all_entries bytes told parts.data_count parts.hash_count keeps.stands keeps.data_is keeps.hash_is in
+    let count = all_entries told parts keeps.state in
     record {
-      id_is = sym own.state.id_is ∙ keeps.id_is;
-      root_is = sym own.state.root_is ∙ keeps.root_is;
-      data_is = sym own.state.data_is ∙ keeps.data_is;
-      hash_is = sym own.state.hash_is ∙ keeps.hash_is;
+      id_is = sym own.state.id_is ∙ keeps.state.id_is;
+      root_is = sym own.state.root_is ∙ keeps.state.root_is;
+      data_is = sym own.state.data_is ∙ keeps.state.data_is;
+      hash_is = sym own.state.hash_is ∙ keeps.state.hash_is;
       damaged_is = λ i. own.damaged_is i ∙ elim (cases_lt i total) [
-        | inl lt ↦ ap is_damaged (class_told bytes told i keeps.stands (omega (arith, count, lt))) ∙ (each_reopens bytes parts keeps i apart lt).damaged_is
-        | inr le ↦ ap is_damaged (past_class told.classes i (omega (arith, keeps.stands.class_count, count, le))) ∙ sym (none_set (has_index parts.damaged i) i total le (apart.damaged_in i))
+        | inl lt ↦ ap is_damaged_class (class_told bytes told i keeps.stands (omega (arith, count, lt))) ∙ (each_reopens bytes parts keeps i apart lt).damaged_is
+        | inr le ↦ ap is_damaged_class (past_class told.classes i (omega (arith, keeps.stands.laid.class_count, count, le))) ∙ sym (none_set (has_index parts.damaged i) i total le (apart.damaged_in i))
       ];
       compressed_is = λ i. own.compressed_is i ∙ elim (cases_lt i total) [
-        | inl lt ↦ ap is_compressed (class_told bytes told i keeps.stands (omega (arith, count, lt))) ∙ (each_reopens bytes parts keeps i apart lt).compressed_is
-        | inr le ↦ ap is_compressed (past_class told.classes i (omega (arith, keeps.stands.class_count, count, le))) ∙ sym (none_set (has_index parts.compressed i) i total le (apart.compressed_in i))
+        | inl lt ↦ ap is_compressed_class (class_told bytes told i keeps.stands (omega (arith, count, lt))) ∙ (each_reopens bytes parts keeps i apart lt).compressed_is
+        | inr le ↦ ap is_compressed_class (past_class told.classes i (omega (arith, keeps.stands.laid.class_count, count, le))) ∙ sym (none_set (has_index parts.compressed i) i total le (apart.compressed_in i))
       ];
       none_begun = own.none_begun;
       at_least = λ i digest row. let lt = apart.acknowledged_in i digest row in
@@ -306,13 +296,13 @@ reopens old new (Ok opened) bytes parts apart keeps mounts = λ after own.
     may_reopen bytes found parts after apart keeps is (counted_own found after (subst (λ (o : Opened). AreOpened o after) mounts.answer.counted_is own))
 reopens old new (Err fault) bytes parts apart keeps mounts = tt
 
-keeps_own : (old new : List DiskState) (result : Result Opened MountFault) → IfOk result (λ opened. Now new (IsMountedOn opened))
+keeps_own : (old new : List DiskState) (result : Result Opened MountFault) → IfOk result (λ opened. Now new (IsMountedOn settled opened))
     → IfOk result (λ opened. (after : StateParts) → AreOpened opened after → Now new (λ disk. EachImage disk (λ image. Preserves image after)))
 keeps_own old new (Ok opened) has = λ after own. mounted_keeps opened after new own has
 keeps_own old new (Err fault) has = tt
 
-untold_own : (new : List DiskState) (result : Result Opened MountFault) → new ≡ [] → IfOk result (λ opened. Now new (IsMountedOn opened))
-untold_own new (Ok opened) is = subst (λ (states : List DiskState). Now states (IsMountedOn opened)) (sym is) tt
+untold_own : (new : List DiskState) (result : Result Opened MountFault) → new ≡ [] → IfOk result (λ opened. Now new (IsMountedOn settled opened))
+untold_own new (Ok opened) is = subst (λ (states : List DiskState). Now states (IsMountedOn settled opened)) (sym is) tt
 untold_own new (Err fault) is = tt
 
 pub keeps_state : (old new : List DiskState) (result : Result Opened MountFault) → SoundNow old → StaysUntold old new → Now old (λ state. Mounts old new result state.reads) → Reopens old new result

@@ -1,3 +1,4 @@
 pub mod Making
+pub mod OpenedFacts
 pub mod Mounting
 pub mod Reopening

@@ -1,5 +1,5 @@
 -- Mounting a backing file: it is settled, opened, and the two counts of its status record are made those of its open blocks.
-use Rattle.std.specs.Prelude.{◌≡◌, ◌⊎◌, ℕ, ◌+◌, ◌^◌, ◌<◌, ◌≤◌, false, nat_le, if◌then◌else◌, List, [], length, take, drop, slice_index, option_map, count_by, Result, Ok, Err, OnOk, IfOk, IfErr}
+use Rattle.std.specs.Prelude.{◌≡◌, ◌⊎◌, ℕ, ◌+◌, ◌^◌, ◌<◌, ◌≤◌, false, nat_le, if◌then◌else◌, List, [], ◌∷◌, length, take, drop, slice_index, option_map, count_by, Result, Ok, Err, OnOk, IfOk, IfErr}
 use Rattle.inc_tree.specs.Geometry.{data_blocks}
 use Rattle.inc_io.specs.Causes.{Rose}
 use Rattle.inc_md.specs.Staying.{in_counts}
@@ -7,8 +7,9 @@ use Rattle.inc_md.specs.declared.records.Records.{Records}
 use Rattle.inc_md.specs.declared.records.StatusRecord.{StatusRecord}
 use Rattle.inc_disk.specs.Disk.{DiskState, MayHaveLeft, Now, settled}
 use Rattle.inc_disk.specs.Laws.{Goes, LeavesOnly}
+use Rattle.inc_entry.specs.Stored.{is_open_class}
 use Rattle.inc_layout.specs.Backing.{IsBackingFile, opened_of}
-use Rattle.inc_layout.specs.Opening.{is_open_class}
+use Rattle.inc_layout.specs.Reopening.{IsMountedOn}
 use Rattle.inc_layout.specs.declared.fault.LayoutFault.{LayoutFault}
 use Rattle.inc_layout.specs.declared.fault.LayoutFault.TheVariants.{TooLong, ReadFault, OutOfMemory as NoMemory}
 use Rattle.inc_layout.specs.declared.mounted.Mounted.{Mounted}
@@ -50,6 +51,12 @@ counted opened = record {
   len = opened.len;
 }
 
+-- ---- the file that is mounted
+
+-- a file of over 2 ^ 46 bytes is refused first
+abbrev pub layout_of : List ℕ → Result Opened LayoutFault
+layout_of bytes = if nat_le (length bytes) (2 ^ 46) then opened_of bytes else Err TooLong
+
 -- ---- what a mount leaves
 
 -- the eight bytes of the counts of the file that stood may be others; all else is as it was
@@ -62,21 +69,28 @@ pub record HasOtherCounts (bytes other : List ℕ) : Type 0 where
 abbrev pub IsSameButCounts : List ℕ → List ℕ → Type 0
 IsSameButCounts bytes other = (other ≡ bytes) ⊎ HasOtherCounts bytes other
 
--- all of the disk is settled, and this is what its file tells
-pub record IsMountedOn (opened : Opened) (disk : DiskState) : Type 0 where
-  pub bytes : List ℕ
-  pub state_is : disk ≡ settled bytes
-  pub stands : IsBackingFile bytes opened
-
 -- a crash might have left these bytes before the call, or they are what the disk read as but for the counts
 abbrev pub MayBeLeftBy : List DiskState → List ℕ → List ℕ → Type 0
 MayBeLeftBy old bytes image = MayHaveLeft (length old) old image ⊎ IsSameButCounts bytes image
 
--- ---- what is answered
+-- Where no sync has succeeded, each image is one from before the call. Since the first one that has, each is what the disk read but for
+-- the counts.
+abbrev pub IsCutAtSync : {T : Type 0} → List DiskState → List DiskState → List ℕ → Result T MountFault → Type 0
+IsCutAtSync old new bytes result =
+    ((result ≡ Err DiskFault) × LeavesOnly old new (MayHaveLeft (length old) old)) ⊎ LeavesOnly (settled bytes ∷ old) new (IsSameButCounts bytes)
 
--- a file of over 2 ^ 46 bytes is refused first
-abbrev pub layout_of : List ℕ → Result Opened LayoutFault
-layout_of bytes = if nat_le (length bytes) (2 ^ 46) then opened_of bytes else Err TooLong
+-- nothing but the first sync has happened
+abbrev pub IsOnlySynced : List DiskState → List DiskState → List ℕ → Type 0
+IsOnlySynced old new bytes = new ≡ settled bytes ∷ old
+
+-- Nothing is written of a file whose counts are right, or that has none, and nothing where the call ends with anything but a fault of the disk.
+abbrev pub IsUnwritten : List DiskState → List DiskState → List ℕ → Result Opened MountFault → Type 0
+IsUnwritten old new bytes (Ok opened) = (found : Opened) → layout_of bytes ≡ Ok found → counted found ≡ found → IsOnlySynced old new bytes
+IsUnwritten old new bytes (Err (Layout fault)) = IsOnlySynced old new bytes
+IsUnwritten old new bytes (Err DiskFault) = Unit {0}
+IsUnwritten old new bytes (Err OutOfMemory) = IsOnlySynced old new bytes
+
+-- ---- what is answered
 
 -- a fault of the file is its first one. Want of memory is one of the whole call
 abbrev pub GivesLayout : LayoutFault → Result Opened LayoutFault → Type 0
@@ -135,14 +149,16 @@ pub record DiffersAt (at : ℕ) (bytes other : List ℕ) : Type 0 where
 abbrev pub Mends : {E : Type 0} → Opened → List DiskState → List DiskState → Result (Unit {0}) E → Type 0
 Mends opened old new result =
     (bytes : List ℕ) → IsBackingFile bytes opened → Now old (λ disk. disk ≡ settled bytes)
-    → Goes old new result (λ disk. IsMountedOn (counted opened) disk × IsSameButCounts bytes disk.reads) (λ disk. IsSameButCounts bytes disk.reads) (IsSameButCounts bytes)
+    → Goes old new result (λ disk. IsMountedOn settled (counted opened) disk × IsSameButCounts bytes disk.reads) (λ disk. IsSameButCounts bytes disk.reads) (IsSameButCounts bytes)
 
 -- a mount of a disk that reads as these bytes
 pub record Mounts (old new : List DiskState) (result : Result Opened MountFault) (bytes : List ℕ) : Type 0 where
   pub answer : GivesMounted result (layout_of bytes)
-  pub opened : IfOk result (λ opened. Now new (IsMountedOn opened))
+  pub opened : IfOk result (λ opened. Now new (IsMountedOn settled opened))
   pub same : Now new (λ disk. IsSameButCounts bytes disk.reads)
   pub moments : LeavesOnly old new (MayBeLeftBy old bytes)
+  pub since : IsCutAtSync old new bytes result
+  pub unwritten : IsUnwritten old new bytes result
 
 -- ---- the outer answer
 

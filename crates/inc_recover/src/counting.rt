@@ -1,5 +1,6 @@
-ghost use Rattle.std.specs.Prelude.{◌≡◌, ◌⊎◌, ◌<◌, ◌≤◌, ◌^◌, length, count_by, IfSome, None, Some};
-ghost use Rattle.inc_layout.specs.Opening.{IsSound, is_open_class};
+ghost use Rattle.std.specs.Prelude.{◌≡◌, ◌≢◌, ◌+◌, ◌<◌, ◌≤◌, ◌^◌, length, count_by, IfSome, None, Some};
+ghost use Rattle.inc_entry.specs.Stored.{is_open_class};
+ghost use Rattle.inc_layout.specs.Opening.{IsSoundOpened};
 ghost use Rattle.inc_recover.specs.Mounting.{counted, open_data, open_hash, status_with};
 
 use inc_entry::Class;
@@ -9,31 +10,29 @@ use inc_md::StatusRecord;
 /// Sets the counts of the status record to those of the blocks that are there. Gives the record where its counts were others, so that
 /// they have to be written.
 pub fn count_blocks(opened: &mut Opened) -> Option<StatusRecord>
-    requires { IsSound opened.old }
+    requires { IsSoundOpened opened.old }
     ensures value { opened.new ≡ counted opened.old }
     ensures some { IfSome result (λ status. opened.new.records.status ≡ Some status) }
-    ensures inside { IfSome result (λ status. status.at ≤ opened.old.len) }
+    ensures needed { IfSome result (λ status. opened.old.records.status ≢ Some status) }
+    ensures inside { IfSome result (λ status. status.at + 8 ≤ opened.old.len) }
     ensures small { IfSome result (λ status. (status.data_written < 2 ^ 32) × (status.hash_written < 2 ^ 32)) }
-    ensures none { result ≡ None → (counted opened.old ≡ opened.old) ⊎ IfSome opened.old.records.status (λ status. opened.old.len < status.at) }
+    ensures none { result ≡ None → counted opened.old ≡ opened.old }
 {
     let Some(status) = opened.records.status else {
         return None;
     };
     let wanted = counted_status(opened, status);
     opened.records.status = Some(wanted);
-    changed(status, wanted, opened.len)
+    changed(status, wanted)
 }
 
-/// The record, where it differs. A record past the file's end is none: where a file tells its bytes, there is no such record.
-fn changed(status: StatusRecord, wanted: StatusRecord, len: u64) -> Option<StatusRecord>
+/// The record, where it differs.
+fn changed(status: StatusRecord, wanted: StatusRecord) -> Option<StatusRecord>
     ensures some { IfSome result (λ found. found ≡ wanted) }
-    ensures inside { IfSome result (λ found. status.at ≤ len) }
-    ensures none { result ≡ None → (wanted ≡ status) ⊎ (len < status.at) }
+    ensures needed { IfSome result (λ found. status ≢ found) }
+    ensures none { result ≡ None → wanted ≡ status }
 {
     if wanted == status {
-        return None;
-    }
-    if status.at > len {
         return None;
     }
     Some(wanted)
@@ -41,7 +40,7 @@ fn changed(status: StatusRecord, wanted: StatusRecord, len: u64) -> Option<Statu
 
 /// The record with the numbers of data and hash blocks that are there.
 fn counted_status(opened: &Opened, status: StatusRecord) -> StatusRecord
-    requires { IsSound opened.now }
+    requires { IsSoundOpened opened.now }
     ensures value { result ≡ status_with (open_data opened.now) (open_hash opened.now) status }
 {
     let data_blocks = opened.areas.geometry.data_blocks();

@@ -1,7 +1,7 @@
 // A law of mounted files, as the contract of a function that does nothing.
-ghost use Rattle.inc_recover.specs.Reopening.{HasParts};
+ghost use Rattle.inc_recover.specs.OpenedFacts.{MountsOpened};
 
-/// Each opened file has the parts of a state, with which the file goes on once it is mounted.
-pub fn an_opened_file_has_its_parts()
-    ensures parts { HasParts }
+/// Each file that was opened and synced has the facts with which a fill begins.
+pub fn opened_files_can_be_filled()
+    ensures mounts { MountsOpened }
 {}

@@ -13,7 +13,7 @@ mod mounting;
 
 pub use fault::MountFault;
 pub use inc_layout::Mounted;
-pub use laws::an_opened_file_has_its_parts;
+pub use laws::opened_files_can_be_filled;
 pub use making::make_file;
 pub use mounting::mount_file;
 

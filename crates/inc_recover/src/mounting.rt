@@ -2,10 +2,12 @@ ghost use Rattle.std.specs.Prelude.{◌≡◌, ◌⊎◌, ◌+◌, ◌<◌, ◌�
 ghost use Rattle.inc_io.specs.Causes.{HasCause, HasCauseAt};
 ghost use Rattle.inc_disk.specs.Disk.{Now, overwritten, settled};
 ghost use Rattle.inc_disk.specs.Laws.{Goes, LeavesOnly};
-ghost use Rattle.inc_layout.specs.Opening.{GivesOpened, IsSound};
+ghost use Rattle.inc_layout.specs.Faults.{GivesOpening};
+ghost use Rattle.inc_layout.specs.Opening.{IsSoundOpened};
+ghost use Rattle.inc_layout.specs.Reopening.{IsMountedOn};
 ghost use Rattle.inc_layout.specs.declared.fault.LayoutFault.TheVariants.{ReadFault as read_fault, TooLong as too_long};
 ghost use Rattle.inc_fill.specs.Steps.{count_bytes};
-ghost use Rattle.inc_recover.specs.Mounting.{DiffersAt, GivesMounted, HasMountCause, IsMountedOn, IsSameButCounts, MayBeLeftBy, Mends, Mounts, StaysUntold, counted, disk_of, layout_of, outcome};
+ghost use Rattle.inc_recover.specs.Mounting.{DiffersAt, GivesMounted, HasMountCause, IsCutAtSync, IsSameButCounts, IsUnwritten, MayBeLeftBy, Mends, Mounts, StaysUntold, counted, disk_of, layout_of, outcome};
 ghost use Rattle.inc_recover.specs.Reopening.{Reopens};
 
 use crate::MountFault;
@@ -22,16 +24,20 @@ const MOST: u64 = 1 << 46;
 
 /// Mounts the backing file of a disk. It settles first, so that what it reads is what a crash leaves.
 pub fn mount_file<D: Disk>(alloc: Global, disk: D) -> Result<Mounted<D>, (MountFault, D)>
-    ensures sound { IfOk result (λ mounted. IsSound mounted.opened) }
+    ensures sound { IfOk result (λ mounted. IsSoundOpened mounted.opened) }
     ensures short { IfOk result (λ mounted. mounted.opened.len ≤ 2 ^ 46) }
     // The disk is settled, and its file tells what was found, with the counts as they are now.
-    ensures opened { IfOk result (λ mounted. Now (D.states (D.kept mounted.disk)) (IsMountedOn mounted.opened)) }
+    ensures opened { IfOk result (λ mounted. Now (D.states (D.kept mounted.disk)) (IsMountedOn settled mounted.opened)) }
     // The file is mounted as it stood, or the first fault of its layout is told.
     ensures answer { Now (D.states (D.kept disk)) (λ state. GivesMounted (outcome result) (layout_of state.reads)) }
     ensures same { Now (D.states (D.kept disk)) (λ before. Now (D.states (D.kept (disk_of result))) (λ after. IsSameButCounts before.reads after.reads)) }
     // A crash meanwhile leaves what it might have left before, or what the disk read as but for the counts.
     ensures moments { Now (D.states (D.kept disk)) (λ before. LeavesOnly (D.states (D.kept disk)) (D.states (D.kept (disk_of result)))
         (MayBeLeftBy (D.states (D.kept disk)) before.reads)) }
+    // Once a sync has succeeded, only the counts may be others than the disk read.
+    ensures since { Now (D.states (D.kept disk)) (λ before. IsCutAtSync (D.states (D.kept disk)) (D.states (D.kept (disk_of result))) before.reads (outcome result)) }
+    // Right counts aren't written, and nothing is where the call ends with anything but a fault of the disk.
+    ensures unwritten { Now (D.states (D.kept disk)) (λ before. IsUnwritten (D.states (D.kept disk)) (D.states (D.kept (disk_of result))) before.reads (outcome result)) }
     // What a crash had to keep of the file is kept at every moment, and what was found is a reopening of it.
     ensures reopens { Reopens (D.states (D.kept disk)) (D.states (D.kept (disk_of result))) (outcome result) }
     ensures cause { HasMountCause (D.faults disk) (D.faults (disk_of result)) (outcome result) }
@@ -44,7 +50,7 @@ pub fn mount_file<D: Disk>(alloc: Global, disk: D) -> Result<Mounted<D>, (MountF
 }
 
 fn mount<D: Disk>(alloc: Global, disk: &mut D) -> Result<Opened, MountFault>
-    ensures sound { IfOk result (λ opened. IsSound opened) }
+    ensures sound { IfOk result (λ opened. IsSoundOpened opened) }
     ensures short { IfOk result (λ opened. opened.len ≤ 2 ^ 46) }
     ensures untold { StaysUntold (D.states (D.kept disk.old)) (D.states (D.kept disk.new)) }
     ensures mounts { Now (D.states (D.kept disk.old)) (λ state. Mounts (D.states (D.kept disk.old)) (D.states (D.kept disk.new)) result state.reads) }
@@ -58,8 +64,8 @@ fn mount<D: Disk>(alloc: Global, disk: &mut D) -> Result<Opened, MountFault>
 
 /// Opens a file of at most 2^46 bytes.
 fn open_short<B: Backing>(alloc: Global, file: &mut B) -> Result<Opened, LayoutFault>
-    ensures answer { IfSome (B.reads (B.kept file.old)) (λ bytes. GivesOpened result (layout_of bytes)) }
-    ensures sound { IfOk result (λ opened. IsSound opened) }
+    ensures answer { IfSome (B.reads (B.kept file.old)) (λ bytes. GivesOpening result (layout_of bytes)) }
+    ensures sound { IfOk result (λ opened. IsSoundOpened opened) }
     ensures short { IfOk result (λ opened. opened.len ≤ 2 ^ 46) }
     ensures kept { B.kept file.new ≡ B.kept file.old }
     ensures cause { HasCauseAt read_fault (B.faults file.old) (B.faults file.new) result }
@@ -87,10 +93,11 @@ fn test_len<B: Backing>(file: &mut B) -> Result<(), LayoutFault>
 
 /// Writes the counts of an opened file where they aren't those of its blocks.
 fn mend_counts<D: Disk>(disk: &mut D, opened: &mut Opened) -> Result<(), Failed>
-    requires sound { IsSound opened.old }
+    requires sound { IsSoundOpened opened.old }
     requires short { opened.old.len ≤ 2 ^ 46 }
     requires len { IfSome (D.reads (D.kept disk.old)) (λ bytes. opened.old.len ≡ length bytes) }
     ensures value { opened.new ≡ counted opened.old }
+    ensures unwritten { counted opened.old ≡ opened.old → OnOk result (D.kept disk.new ≡ D.kept disk.old) }
     ensures untold { StaysUntold (D.states (D.kept disk.old)) (D.states (D.kept disk.new)) }
     ensures mends { Mends opened.old (D.states (D.kept disk.old)) (D.states (D.kept disk.new)) result }
     ensures cause { HasCause (D.faults disk.old) (D.faults disk.new) result }

@@ -1,12 +1,13 @@
-ghost use Rattle.std.specs.Prelude.{◌≡◌, length, IfSome, IsTrue};
+ghost use Rattle.std.specs.Prelude.{◌≤◌, length, IfSome, IsTrue};
 ghost use Rattle.inc_disk.specs.Disk.{reads_of};
 
 use crate::tests::IMAGE;
 use crate::{MountFault, Mounted, mount_file};
 use inc_disk::MemDisk;
-use inc_fill::{fill_one, padded};
+use inc_entry::Class;
+use inc_fill::{Block, open_gate, padded, settle, write_data, write_place};
 use inc_header::HeaderFault;
-use inc_io::Bytes;
+use inc_io::{Bytes, Failed};
 use inc_layout::LayoutFault;
 use inc_md::StatusRecord;
 use std::alloc::Global;
@@ -28,20 +29,34 @@ fn disk_of(alloc: Global, bytes: &[u8], calls: u32) -> Result<MemDisk, Fail> {
     )?)
 }
 
-fn is_fresh(disk: &MemDisk) -> bool
-    ensures there { IsTrue result → IfSome (reads_of disk.now.history) (λ bytes. length bytes ≡ 260) }
+/// Whether a write may begin at this place.
+fn is_place(disk: &MemDisk, at: u64) -> bool
+    ensures near { IsTrue result → at ≤ 1000000 }
+    ensures there { IsTrue result → IfSome (reads_of disk.now.history) (λ bytes. at ≤ length bytes) }
 {
-    disk.bytes().len() == 260
+    at <= ROOM && at <= disk.bytes().len() as u64
+}
+
+/// Fills the file's one block, whose entry is at 250.
+fn fill(disk: &mut MemDisk, block: &Block) -> Result<(), Failed> {
+    if is_place(disk, 260) {
+        write_data(disk, 260, block)?;
+    }
+    if is_place(disk, 250) {
+        write_place(disk, 250, 260)?;
+    }
+    settle(disk)?;
+    if is_place(disk, 257) {
+        open_gate(disk, 250)?;
+    }
+    settle(disk)
 }
 
 /// The disk of a fill of the file's one block that stops at the call with this number.
 fn stopped_fill(alloc: Global, calls: u32) -> Result<MemDisk, Fail> {
     let mut disk = disk_of(alloc, &IMAGE, calls)?;
     let block = padded(alloc, &[0; 4096], 4096)?;
-    if !is_fresh(&disk) {
-        return Err("the outside file".into());
-    }
-    let _ = fill_one(&mut disk, 250, 260, &block);
+    let _ = fill(&mut disk, &block);
     Ok(disk)
 }
 
@@ -99,6 +114,27 @@ fn what_a_stopped_fill_leaves_is_mounted(rt: HostRuntime) -> Result<(), Fail> {
         let lost = torn(alloc, &disk)?;
         mounted_after(alloc, disk, lost)?;
     }
+    Ok(())
+}
+
+/// The class of the file's block where a crash inside the gate's write left this byte.
+fn class_after(alloc: Global, byte: u8) -> Result<Class, Fail> {
+    let disk = stopped_fill(alloc, 4)?;
+    let mut image = disk.bytes().to_vec(alloc)?;
+    *image.get_mut(257).ok_or("an entry")? = byte;
+    let opened = mounted_after(alloc, disk, Bytes::from_vec(image))?.opened;
+    Ok(*opened.classes.as_slice().first().ok_or("a class")?)
+}
+
+#[test]
+fn a_torn_gate_reads_as_open_or_closed(rt: HostRuntime) -> Result<(), Fail> {
+    let alloc = rt.alloc();
+    let open = Class::OpenAt {
+        place: 260,
+        len: 4096,
+    };
+    assert_eq!(rt; class_after(alloc, 0x10)?, open);
+    assert_eq!(rt; class_after(alloc, 0x73)?, Class::Closed);
     Ok(())
 }
 

@@ -1,15 +1,19 @@
+ghost use Rattle.std.specs.Prelude.{◌≡◌, [], ◌∷◌, IfOk};
+ghost use Rattle.inc_disk.specs.Disk.{settled};
+
 use crate::make_file;
 use inc_disk::MemDisk;
 use inc_header::{HeaderFault, read_header};
-use inc_io::{Bytes, Failed};
-use inc_layout::fresh_image;
+use inc_io::{Backing, Bytes, Failed};
+use inc_layout::{fresh_image, fresh_unsigned};
 use std::alloc::Global;
 use std::test::Fail;
 
 const ROOM: u64 = 1000;
 
-/// The device calls of a whole run: three writes, and a sync after each.
-const WHOLE: u32 = 6;
+/// The device calls of a whole run: the zeros in place of the magic number, the front, the zeros behind it and the magic number are
+/// written, and of these the first and the last two are followed by a sync.
+const WHOLE: u32 = 7;
 
 const ID: [u8; 16] = [
     0x00, 0x11, 0x22, 0x33, 0x44, 0x55, 0x66, 0x77, 0x88, 0x99, 0xaa, 0xbb, 0xcc, 0xdd, 0xee, 0xff,
@@ -58,8 +62,14 @@ fn with_front(alloc: Global, front: &[u8]) -> Result<Bytes, Fail> {
 /// A run on an empty disk that fails after so many device calls.
 fn made(alloc: Global, calls: u32) -> Result<Result<MemDisk, (Failed, MemDisk)>, Fail> {
     let image = fresh_image(alloc, 4096, ID, &BLOB)?;
-    let disk = MemDisk::new(alloc, Bytes::of(alloc, &[])?, ROOM, calls, Vec::new(alloc))?;
-    Ok(make_file(disk, &image))
+    Ok(make_file(empty_disk(alloc, ROOM, calls)?, &image))
+}
+
+fn empty_disk(alloc: Global, room: u64, calls: u32) -> Result<MemDisk, Fail>
+    ensures empty { IfOk result (λ disk. disk.history ≡ settled [] ∷ []) }
+{
+    let bytes = Bytes::from_vec(Vec::new(alloc));
+    Ok(MemDisk::new(alloc, bytes, room, calls, Vec::new(alloc))?)
 }
 
 /// The disk of a run that fails after so many device calls.
@@ -89,11 +99,12 @@ fn a_run_that_stops_leaves_a_file_that_is_refused(rt: HostRuntime) -> Result<(),
         (2, HeaderFault::BadMagic),
         (3, HeaderFault::BadMagic),
         (4, HeaderFault::BadMagic),
+        (5, HeaderFault::BadMagic),
     ] {
         let disk = stopped(alloc, calls)?;
         assert_eq!(rt; read_header(disk.bytes()), Err(fault));
         assert_eq!(rt; disk.made(), calls + 1);
-        assert_eq!(rt; disk.faults(), 1);
+        assert_eq!(rt; disk.fault_count(), 1);
     }
     Ok(())
 }
@@ -103,7 +114,7 @@ fn a_stop_in_the_last_write_leaves_no_good_magic_or_the_whole_file(
     rt: HostRuntime,
 ) -> Result<(), Fail> {
     let alloc = rt.alloc();
-    let disk = stopped(alloc, 4)?;
+    let disk = stopped(alloc, 5)?;
     let zeros = with_front(alloc, &[0; 8])?;
     assert!(rt; disk.is_image(zeros.as_slice()));
     assert_eq!(rt; read_header(zeros.as_slice()), Err(HeaderFault::BadMagic));
@@ -111,7 +122,7 @@ fn a_stop_in_the_last_write_leaves_no_good_magic_or_the_whole_file(
     let mut changed = image(alloc)?;
     changed.push(0)?;
     assert!(rt; !disk.is_image(changed.as_slice()));
-    let disk = stopped(alloc, 3)?;
+    let disk = stopped(alloc, 4)?;
     assert!(rt; !disk.is_image(image(alloc)?.as_slice()));
     Ok(())
 }
@@ -119,8 +130,23 @@ fn a_stop_in_the_last_write_leaves_no_good_magic_or_the_whole_file(
 #[test]
 fn without_the_last_sync_the_magic_may_still_be_torn(rt: HostRuntime) -> Result<(), Fail> {
     let alloc = rt.alloc();
-    let disk = stopped(alloc, 5)?;
+    let disk = stopped(alloc, 6)?;
     assert_eq!(rt; disk.bytes(), image(alloc)?.as_slice());
     assert!(rt; disk.is_image(with_front(alloc, b"INCFS\0\0\x01")?.as_slice()));
+    Ok(())
+}
+
+/// An unsigned file of 2^26 bytes of content has 163,840 bytes of entries.
+#[test]
+fn zeros_come_in_pieces_of_64_kib(rt: HostRuntime) -> Result<(), Fail> {
+    let alloc = rt.alloc();
+    let image = fresh_unsigned(alloc, 1 << 26, ID)?;
+    let Ok(disk) = make_file(empty_disk(alloc, 200_000, 1000)?, &image) else {
+        return Err("a disk with room".into());
+    };
+    assert_eq!(rt; disk.made(), WHOLE + 2);
+    assert_eq!(rt; disk.bytes().len(), 163_986);
+    let entries = disk.bytes().get(146..).ok_or("entries")?;
+    assert!(rt; entries.iter().all(|byte| *byte == 0));
     Ok(())
 }

@@ -10,7 +10,7 @@ use Rattle.inc_bytes.proofs.Judging.{passed, passed_both, judged_ok, judged_err,
 use Rattle.inc_signature.specs.declared.signature.SigInfo.{SigInfo}
 use Rattle.inc_signature.specs.declared.signature.SigFault.{SigFault}
 use Rattle.inc_signature.specs.declared.signature.SigFault.TheVariants.{OutOfMemory}
-use Rattle.inc_signature.specs.Signature.{hash_info, printed, info_end, signing_end, info_in, root_in, blob_tests, info_tests, signature_tests, signature_in, signature_of, Gives}
+use Rattle.inc_signature.specs.Signature.{hash_info, printed, info_end, signing_end, info_in, info_root, section_tests, info_tests, signature_tests, signature_in, signature_of, GivesSigInfo}
 
 -- ---- what the tests say of the fields
 
@@ -31,8 +31,8 @@ record InfoHolds (info : List ℕ) : Type 0 where
 neither_greater : (a b : ℕ) → leb a b ≡ true → leb b a ≡ true → a ≡ b
 neither_greater a b p q = omega (arith, leb-true a b p, leb-true b a q)
 
-blob_holds : (bytes : List ℕ) → first_failing (blob_tests bytes) ≡ None → BlobHolds bytes
-unfolding blob_tests
+blob_holds : (bytes : List ℕ) → first_failing (section_tests bytes) ≡ None → BlobHolds bytes
+unfolding section_tests
 blob_holds bytes none =
     let t1 = passed _ _ _ none in
     let t2 = passed _ _ _ t1.1 in
@@ -48,8 +48,8 @@ blob_holds bytes none =
       whole = neither_greater (signing_end bytes) (length bytes) t6.0 t7.0;
     }
 
-blob_passes : (bytes : List ℕ) → BlobHolds bytes → first_failing (blob_tests bytes) ≡ None
-unfolding blob_tests info_end
+blob_passes : (bytes : List ℕ) → BlobHolds bytes → first_failing (section_tests bytes) ≡ None
+unfolding section_tests info_end
 blob_passes bytes h =
     let four : 4 ≤ length bytes = omega (arith, h.long) in
     let eight : 8 ≤ length bytes = omega (arith, h.long) in
@@ -87,29 +87,29 @@ info_passes info h =
 
 -- ---- what is read prints the blob
 
-info_printed : (info : List ℕ) → AreBytes info → InfoHolds info → hash_info (root_in info) ≡ info
+info_printed : (info : List ℕ) → AreBytes info → InfoHolds info → hash_info (info_root info) ≡ info
 unfolding hash_info
 info_printed info fits h =
     let next = field_next info fits in
-    let root-len : length (root_in info) ≡ 32 = omega (arith, h.whole, length-take 32 (drop 13 info), length-drop 13 info) in
+    let root-len : length (info_root info) ≡ 32 = omega (arith, h.whole, length-take 32 (drop 13 info), length-drop 13 info) in
     let e4 : le_bytes 4 1 ≡ take 4 info = next 4 0 1 [] (omega (arith, h.whole)) refl h.algorithm in
     let e5 = next 1 4 12 _ (omega (arith, h.whole)) e4 h.log_block in
     let e9 = next 4 5 0 _ (omega (arith, h.whole)) e5 h.salt_size in
-    let e13 = next 4 9 (length (root_in info)) _ (omega (arith, h.whole)) e9 (h.root_size ∙ sym root-len) in
+    let e13 = next 4 9 (length (info_root info)) _ (omega (arith, h.whole)) e9 (h.root_size ∙ sym root-len) in
     ap (λ (x : List ℕ). x ++ take 32 (drop 13 info)) e13 ∙ take-then 32 13 info ∙ take_all 45 info (omega (arith, h.whole))
 
-blob_printed : (bytes : List ℕ) → AreBytes bytes → BlobHolds bytes → InfoHolds (info_in bytes) → printed (root_in (info_in bytes)) (drop (info_end bytes + 4) bytes) ≡ bytes
+blob_printed : (bytes : List ℕ) → AreBytes bytes → BlobHolds bytes → InfoHolds (info_in bytes) → printed (info_root (info_in bytes)) (drop (info_end bytes + 4) bytes) ≡ bytes
 unfolding printed info_end
 blob_printed bytes fits h inner =
     let size = field 4 4 bytes in
     let rest = drop (8 + size + 4) bytes in
     let next = field_next bytes fits in
-    let info-is : hash_info (root_in (info_in bytes)) ≡ info_in bytes = info_printed (info_in bytes) (AreBytes-take size _ (AreBytes-drop 8 bytes fits)) inner in
+    let info-is : hash_info (info_root (info_in bytes)) ≡ info_in bytes = info_printed (info_in bytes) (AreBytes-take size _ (AreBytes-drop 8 bytes fits)) inner in
     let info-len : length (info_in bytes) ≡ size = omega (arith, h.long, length-take size (drop 8 bytes), length-drop 8 bytes) in
     let rest-len : field 4 (8 + size) bytes ≡ length rest = omega (arith, h.long, h.whole, length-drop (8 + size + 4) bytes) in
     let e4 : le_bytes 4 2 ≡ take 4 bytes = next 4 0 2 [] (omega (arith, h.long)) refl h.version in
-    let e8 = next 4 4 (length (hash_info (root_in (info_in bytes)))) _ (omega (arith, h.long)) e4 (sym (ap length info-is ∙ info-len)) in
-    let to_info = ap (λ (x : List ℕ). x ++ hash_info (root_in (info_in bytes))) e8 ∙ ap (λ (x : List ℕ). take 8 bytes ++ x) info-is ∙ take-then size 8 bytes in
+    let e8 = next 4 4 (length (hash_info (info_root (info_in bytes)))) _ (omega (arith, h.long)) e4 (sym (ap length info-is ∙ info-len)) in
+    let to_info = ap (λ (x : List ℕ). x ++ hash_info (info_root (info_in bytes))) e8 ∙ ap (λ (x : List ℕ). take 8 bytes ++ x) info-is ∙ take-then size 8 bytes in
     let to_size = next 4 (8 + size) (length rest) _ h.long to_info rest-len in
     ap (λ (x : List ℕ). x ++ rest) to_size ∙ take-append-drop (8 + size + 4) bytes
 
@@ -129,7 +129,7 @@ hash_info_holds root e = record {
   whole = omega (arith, e);
 }
 
-root_again : (root : List ℕ) → length root ≡ 32 → root_in (hash_info root) ≡ root
+root_again : (root : List ℕ) → length root ≡ 32 → info_root (hash_info root) ≡ root
 unfolding hash_info le_bytes
 root_again root e = take_all 32 root (omega (arith, e))
 
@@ -184,8 +184,8 @@ blob_again root signing e small =
       whole = omega (arith, p.info_size, size-is, p.whole);
     } in
     let info : InfoHolds (info_in bytes) = subst InfoHolds (sym info-is) (hash_info_holds root e) in
-    let none : first_failing (blob_tests bytes ++ info_tests (info_in bytes)) ≡ None = first_failing-append_right (blob_tests bytes) (info_tests (info_in bytes)) (blob_passes bytes blob) ∙ info_passes (info_in bytes) info in
-    let root-is : root_in (info_in bytes) ≡ root = ap root_in info-is ∙ root_again root e in
+    let none : first_failing (section_tests bytes ++ info_tests (info_in bytes)) ≡ None = first_failing-append_right (section_tests bytes) (info_tests (info_in bytes)) (blob_passes bytes blob) ∙ info_passes (info_in bytes) info in
+    let root-is : info_root (info_in bytes) ≡ root = ap info_root info-is ∙ root_again root e in
     let made : List ℕ → List ℕ → SigInfo = λ r s. record { root = r; signing = s } in
     ap (λ (failing : Option SigFault). judge failing (signature_in bytes)) none
     ∙ ap (λ (r : List ℕ). Ok (made r (drop (info_end bytes + 4) bytes))) root-is
@@ -193,18 +193,18 @@ blob_again root signing e small =
 
 -- ---- from the parts of the reader
 
-pub told_fault : (fault : SigFault) (judged : Result SigInfo SigFault) → (fault ≡ OutOfMemory → ⊥) → judged ≡ Err fault → Gives (Err fault) judged
+pub told_fault : (fault : SigFault) (judged : Result SigInfo SigFault) → (fault ≡ OutOfMemory → ⊥) → judged ≡ Err fault → GivesSigInfo (Err fault) judged
 told_fault OutOfMemory judged ne e = absurd (ne refl)
 told_fault fault judged ne e = e
 
-pub memory_at_whole : (judged : Result SigInfo SigFault) (s : SigInfo) → judged ≡ Ok s → Gives (Err OutOfMemory) judged
+pub memory_at_whole : (judged : Result SigInfo SigFault) (s : SigInfo) → judged ≡ Ok s → GivesSigInfo (Err OutOfMemory) judged
 memory_at_whole judged s e = subst (λ (r : Result SigInfo SigFault). IsOk r) (sym e) refl
 
 -- the blob's own tests fail
-pub blob_refused : (bytes : List ℕ) (fault : SigFault) → Err fault ≡ judge (first_failing (blob_tests bytes)) (info_end bytes) → signature_of bytes ≡ Err fault
+pub blob_refused : (bytes : List ℕ) (fault : SigFault) → Err fault ≡ judge (first_failing (section_tests bytes)) (info_end bytes) → signature_of bytes ≡ Err fault
 unfolding signature_of signature_tests
 blob_refused bytes fault e =
-    ap (λ (failing : Option SigFault). judge failing (signature_in bytes)) (first_failing-append_left (blob_tests bytes) (info_tests (info_in bytes)) fault (judged_err _ (info_end bytes) fault (sym e)))
+    ap (λ (failing : Option SigFault). judge failing (signature_in bytes)) (first_failing-append_left (section_tests bytes) (info_tests (info_in bytes)) fault (judged_err _ (info_end bytes) fault (sym e)))
 
 -- the part of the blob that is read as its hash info section
 abbrev part : List ℕ → ℕ → List ℕ
@@ -217,62 +217,62 @@ part_is bytes end e =
     ap (λ (n : ℕ). take n (drop 8 bytes)) size
 
 -- the tests of the hash info section fail
-pub info_refused : (bytes : List ℕ) (end : ℕ) (fault : SigFault) → Ok end ≡ judge (first_failing (blob_tests bytes)) (info_end bytes) → Err fault ≡ judge (first_failing (info_tests (part bytes end))) (root_in (part bytes end)) → signature_of bytes ≡ Err fault
+pub info_refused : (bytes : List ℕ) (end : ℕ) (fault : SigFault) → Ok end ≡ judge (first_failing (section_tests bytes)) (info_end bytes) → Err fault ≡ judge (first_failing (info_tests (part bytes end))) (info_root (part bytes end)) → signature_of bytes ≡ Err fault
 unfolding signature_of signature_tests
 info_refused bytes end fault blob e =
     let whole = judged_ok _ (info_end bytes) end (sym blob) in
-    let first : first_failing (info_tests (info_in bytes)) ≡ Some fault = ap (λ (x : List ℕ). first_failing (info_tests x)) (sym (part_is bytes end whole.1)) ∙ judged_err _ (root_in (part bytes end)) fault (sym e) in
+    let first : first_failing (info_tests (info_in bytes)) ≡ Some fault = ap (λ (x : List ℕ). first_failing (info_tests x)) (sym (part_is bytes end whole.1)) ∙ judged_err _ (info_root (part bytes end)) fault (sym e) in
     ap (λ (failing : Option SigFault). judge failing (signature_in bytes)) (
-    first_failing-append_right (blob_tests bytes) (info_tests (info_in bytes)) whole.0
+    first_failing-append_right (section_tests bytes) (info_tests (info_in bytes)) whole.0
     ∙ first)
 
 -- every test holds
-pub all_hold : (bytes : List ℕ) (end : ℕ) (root : List ℕ) → Ok end ≡ judge (first_failing (blob_tests bytes)) (info_end bytes) → Ok root ≡ judge (first_failing (info_tests (part bytes end))) (root_in (part bytes end)) → signature_of bytes ≡ Ok (record { root = root; signing = drop (end + 4) bytes })
+pub all_hold : (bytes : List ℕ) (end : ℕ) (root : List ℕ) → Ok end ≡ judge (first_failing (section_tests bytes)) (info_end bytes) → Ok root ≡ judge (first_failing (info_tests (part bytes end))) (info_root (part bytes end)) → signature_of bytes ≡ Ok (record { root = root; signing = drop (end + 4) bytes })
 unfolding signature_of signature_tests signature_in
 all_hold bytes end root blob info =
     let whole = judged_ok _ (info_end bytes) end (sym blob) in
-    let inner = judged_ok _ (root_in (part bytes end)) root (sym info) in
+    let inner = judged_ok _ (info_root (part bytes end)) root (sym info) in
     let same = part_is bytes end whole.1 in
     let none : first_failing (info_tests (info_in bytes)) ≡ None = ap (λ (x : List ℕ). first_failing (info_tests x)) (sym same) ∙ inner.0 in
     let made : List ℕ → ℕ → SigInfo = λ r n. record { root = r; signing = drop (n + 4) bytes } in
     ap (λ (failing : Option SigFault). judge failing (signature_in bytes)) (
-    first_failing-append_right (blob_tests bytes) (info_tests (info_in bytes)) whole.0
+    first_failing-append_right (section_tests bytes) (info_tests (info_in bytes)) whole.0
     ∙ none)
-    ∙ ap (λ (r : List ℕ). Ok (made r (info_end bytes))) (ap root_in (sym same) ∙ inner.1)
+    ∙ ap (λ (r : List ℕ). Ok (made r (info_end bytes))) (ap info_root (sym same) ∙ inner.1)
     ∙ ap (λ (n : ℕ). Ok (made root n)) whole.1
 
 -- ---- the clauses
 
-pub is_printed : (bytes : List ℕ) (r : Result SigInfo SigFault) → AreBytes bytes → Gives r (signature_of bytes) → IfOk r (λ s. printed s.root s.signing ≡ bytes)
+pub is_printed : (bytes : List ℕ) (r : Result SigInfo SigFault) → AreBytes bytes → GivesSigInfo r (signature_of bytes) → IfOk r (λ s. printed s.root s.signing ≡ bytes)
 unfolding signature_of signature_tests signature_in
 is_printed bytes (Ok s) fits e =
     let found = judged_ok _ _ s e in
-    let both = passed_both (blob_tests bytes) (info_tests (info_in bytes)) found.0 in
+    let both = passed_both (section_tests bytes) (info_tests (info_in bytes)) found.0 in
     subst (λ (x : SigInfo). printed x.root x.signing ≡ bytes) found.1 (blob_printed bytes fits (blob_holds bytes both.0) (info_holds (info_in bytes) both.1))
 is_printed bytes (Err fault) fits e = tt
 
 -- what is read isn't too long
-pub is_short : (bytes : List ℕ) (r : Result SigInfo SigFault) → Gives r (signature_of bytes) → OnOk r (length bytes ≤ 8096)
+pub is_short : (bytes : List ℕ) (r : Result SigInfo SigFault) → GivesSigInfo r (signature_of bytes) → OnOk r (length bytes ≤ 8096)
 unfolding signature_of signature_tests
 is_short bytes (Ok s) e =
     let found = judged_ok _ _ s e in
-    let both = passed_both (blob_tests bytes) (info_tests (info_in bytes)) found.0 in
+    let both = passed_both (section_tests bytes) (info_tests (info_in bytes)) found.0 in
     (blob_holds bytes both.0).small
 is_short bytes (Err fault) e = tt
 
-gives_again : (r judged read : Result SigInfo SigFault) → Gives r judged → judged ≡ read → Gives r read
-gives_again r judged read g e = subst (λ (x : Result SigInfo SigFault). Gives r x) e g
+gives_again : (r judged read : Result SigInfo SigFault) → GivesSigInfo r judged → judged ≡ read → GivesSigInfo r read
+gives_again r judged read g e = subst (λ (x : Result SigInfo SigFault). GivesSigInfo r x) e g
 
-pub is_accepted : (bytes : List ℕ) (r : Result SigInfo SigFault) → Gives r (signature_of bytes) → (root signing : List ℕ) → length root ≡ 32 → printed root signing ≡ bytes → length bytes ≤ 8096 → Gives r (Ok (record { root = root; signing = signing }))
+pub is_accepted : (bytes : List ℕ) (r : Result SigInfo SigFault) → GivesSigInfo r (signature_of bytes) → (root signing : List ℕ) → length root ≡ 32 → printed root signing ≡ bytes → length bytes ≤ 8096 → GivesSigInfo r (Ok (record { root = root; signing = signing }))
 is_accepted bytes r g root signing e same small =
     let fits : length (printed root signing) ≤ 8096 = omega (arith, ap length same, small) in
     gives_again r (signature_of bytes) (Ok (record { root = root; signing = signing })) g (ap signature_of (sym same) ∙ blob_again root signing e fits)
 
-first_of : (bytes : List ℕ) (fault : SigFault) → Gives (Err fault) (signature_of bytes) → (fault ≡ OutOfMemory → ⊥) → signature_of bytes ≡ Err fault
+first_of : (bytes : List ℕ) (fault : SigFault) → GivesSigInfo (Err fault) (signature_of bytes) → (fault ≡ OutOfMemory → ⊥) → signature_of bytes ≡ Err fault
 first_of bytes OutOfMemory g ne = absurd (ne refl)
 first_of bytes fault g ne = g
 
-pub is_first : (bytes : List ℕ) (r : Result SigInfo SigFault) → Gives r (signature_of bytes) → IfErr r (λ fault. (fault ≡ OutOfMemory → ⊥) → first_failing (signature_tests bytes) ≡ Some fault)
+pub is_first : (bytes : List ℕ) (r : Result SigInfo SigFault) → GivesSigInfo r (signature_of bytes) → IfErr r (λ fault. (fault ≡ OutOfMemory → ⊥) → first_failing (signature_tests bytes) ≡ Some fault)
 unfolding signature_of
 is_first bytes (Ok s) g = tt
 is_first bytes (Err fault) g = λ ne. judged_err _ _ fault (first_of bytes fault g ne)

@@ -42,14 +42,14 @@ signing_end bytes = info_end bytes + 4 + field 4 (info_end bytes) bytes
 abbrev pub info_in : List ℕ → List ℕ
 info_in bytes = take (field 4 4 bytes) (drop 8 bytes)
 
-abbrev pub root_in : List ℕ → List ℕ
-root_in info = take 32 (drop 13 info)
+abbrev pub info_root : List ℕ → List ℕ
+info_root info = take 32 (drop 13 info)
 
 -- ---- the tests, in their order
 
 -- of the blob, up to its sections
-unfoldable pub blob_tests : List ℕ → List (Bool × SigFault)
-blob_tests bytes =
+unfoldable pub section_tests : List ℕ → List (Bool × SigFault)
+section_tests bytes =
     (nat_le (length bytes) 8096, TooLong)
     ∷ (nat_le 4 (length bytes), Short)
     ∷ (field 4 0 bytes == 2, BadVersion)
@@ -75,17 +75,17 @@ info_tests info =
     ∷ []
 
 unfoldable pub signature_tests : List ℕ → List (Bool × SigFault)
-signature_tests bytes = blob_tests bytes ++ info_tests (info_in bytes)
+signature_tests bytes = section_tests bytes ++ info_tests (info_in bytes)
 
 -- what the fields say
 unfoldable pub signature_in : List ℕ → SigInfo
-signature_in bytes = record { root = root_in (info_in bytes); signing = drop (info_end bytes + 4) bytes }
+signature_in bytes = record { root = info_root (info_in bytes); signing = drop (info_end bytes + 4) bytes }
 
 unfoldable pub signature_of : List ℕ → Result SigInfo SigFault
 signature_of bytes = judge (first_failing (signature_tests bytes)) (signature_in bytes)
 
 -- An answer is what the tests say. Want of memory comes only where every test holds.
-abbrev pub Gives : Result SigInfo SigFault → Result SigInfo SigFault → Type 0
-Gives (Ok s) judged = judged ≡ Ok s
-Gives (Err OutOfMemory) judged = IsOk judged
-Gives (Err fault) judged = judged ≡ Err fault
+abbrev pub GivesSigInfo : Result SigInfo SigFault → Result SigInfo SigFault → Type 0
+GivesSigInfo (Ok s) judged = judged ≡ Ok s
+GivesSigInfo (Err OutOfMemory) judged = IsOk judged
+GivesSigInfo (Err fault) judged = judged ≡ Err fault

@@ -1,11 +1,12 @@
 ghost use Rattle.std.specs.Prelude.{◌≡◌, ◌≢◌, ℕ, ◌+◌, ◌≤◌, List, length, take, drop, IfOk, IfErr, OnOk, Ok, Err, Some};
 ghost use Rattle.inc_bytes.specs.Fields.{field};
 ghost use Rattle.inc_bytes.specs.Tests.{first_failing, judge};
-ghost use Rattle.inc_signature.specs.Signature.{printed, blob_tests, info_tests, signature_tests, info_end, root_in, signature_of, Gives};
+ghost use Rattle.inc_signature.specs.Signature.{printed, section_tests, info_tests, signature_tests, info_end, info_root, signature_of, GivesSigInfo};
 
 use crate::signature::{SigFault, SigInfo};
-use inc_bytes::{Digest32, get_u32};
+use inc_bytes::u32_at;
 use inc_io::Bytes;
+use inc_tree::Digest32;
 use std::alloc::Global;
 
 /// The most bytes that a signature blob may have.
@@ -20,17 +21,10 @@ pub const LOG_BLOCK: u8 = 12;
 
 pub const ROOT_SIZE: u32 = 32;
 
-fn u32_at(b: &[u8], at: usize) -> u32
-    requires place { at + 4 ≤ length b.now }
-    ensures value { result ≡ field 4 at b.now }
-{
-    get_u32(b, at).unwrap()
-}
-
 /// Where the hash info section ends, in a blob whose sections are all there.
-#[tactic(auto, unfolding(crate::specs::Signature::blob_tests, crate::specs::Signature::info_end))]
+#[tactic(auto, unfolding(crate::specs::Signature::section_tests, crate::specs::Signature::info_end))]
 fn end_of_info(b: &[u8]) -> Result<usize, SigFault>
-    ensures value { result ≡ judge (first_failing (blob_tests b.now)) (info_end b.now) }
+    ensures value { result ≡ judge (first_failing (section_tests b.now)) (info_end b.now) }
     ensures low { IfOk result (λ end. 8 ≤ end) }
     ensures high { IfOk result (λ end. end + 4 ≤ length b.now) }
     ensures told { result ≢ Err SigFault.OutOfMemory }
@@ -64,7 +58,7 @@ fn end_of_info(b: &[u8]) -> Result<usize, SigFault>
 /// The root in a hash info section.
 #[tactic(auto, unfolding(crate::specs::Signature::info_tests))]
 fn root_of(info: &[u8]) -> Result<Digest32, SigFault>
-    ensures value { result ≡ judge (first_failing (info_tests info.now)) (root_in info.now) }
+    ensures value { result ≡ judge (first_failing (info_tests info.now)) (info_root info.now) }
     ensures told { result ≢ Err SigFault.OutOfMemory }
 {
     if info.len() < 4 {
@@ -103,7 +97,7 @@ fn root_of(info: &[u8]) -> Result<Digest32, SigFault>
 }
 
 fn parsed(alloc: Global, b: &[u8]) -> Result<SigInfo, SigFault>
-    ensures value { Gives result (signature_of b.now) }
+    ensures value { GivesSigInfo result (signature_of b.now) }
 {
     let end = end_of_info(b)?;
     let root = root_of(&b[8..end])?;
@@ -113,13 +107,13 @@ fn parsed(alloc: Global, b: &[u8]) -> Result<SigInfo, SigFault>
 
 /// Reads a signature blob, all of its bytes.
 pub fn parse(alloc: Global, b: &[u8]) -> Result<SigInfo, SigFault>
-    ensures value { Gives result (signature_of b.now) }
+    ensures value { GivesSigInfo result (signature_of b.now) }
     // What is read prints the blob, each byte of it.
     ensures printed { IfOk result (λ s. printed s.root s.signing ≡ b.now) }
     // What is read has at most 8096 bytes.
     ensures short { OnOk result (length b.now ≤ 8096) }
     // What prints the blob is read, unless memory runs out.
-    ensures accepted { (root signing : List ℕ) → length root ≡ 32 → printed root signing ≡ b.now → length b.now ≤ 8096 → Gives result (Ok (record { root = root; signing = signing })) }
+    ensures accepted { (root signing : List ℕ) → length root ≡ 32 → printed root signing ≡ b.now → length b.now ≤ 8096 → GivesSigInfo result (Ok (record { root = root; signing = signing })) }
     // Else the first test that fails gives the fault.
     ensures fault { IfErr result (λ e. e ≢ SigFault.OutOfMemory → first_failing (signature_tests b.now) ≡ Some e) }
 {

@@ -1,8 +1,8 @@
 ghost use Rattle.std.specs.Prelude.{◌≡◌};
 ghost use Rattle.inc_signature.specs.declared.signature.SigFault.TheVariants.{OutOfMemory};
 
-use inc_bytes::Digest32;
 use inc_io::Bytes;
+use inc_tree::Digest32;
 use std::alloc::AllocError;
 
 /// What a signature blob says: SHA-256 over blocks of 4096 bytes, without salt, with this root.

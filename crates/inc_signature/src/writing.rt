@@ -4,22 +4,15 @@ ghost use Rattle.inc_signature.specs.Signature.{hash_info, printed, signature_of
 
 use crate::parsing::{LOG_BLOCK, ROOT_SIZE, SHA256, VERSION};
 use crate::signature::SigInfo;
-use inc_bytes::{Digest32, OutOfMemory};
+use inc_bytes::{OutOfMemory, push_u32};
 use inc_io::Bytes;
+use inc_tree::Digest32;
 use std::alloc::Global;
 
 /// The bytes of a hash info section: its fields and the root.
 const INFO_SIZE: u32 = 45;
 
 const NO_SALT: u32 = 0;
-
-/// Appends a number of four bytes.
-#[tactic(auto, using(inc_bytes::proofs::Numbers::le_bytes_4))]
-fn push_u32(blob: &mut Vec<u8>, n: u32) -> Result<(), OutOfMemory>
-    ensures value { OnOk result (blob.new.items ≡ blob.old.items ++ le_bytes 4 n) }
-{
-    Ok(blob.extend_from_slice(&n.to_le_bytes())?)
-}
 
 /// Appends the hash info section with this root.
 fn push_info(blob: &mut Vec<u8>, root: &Digest32) -> Result<(), OutOfMemory>

@@ -1,12 +1,12 @@
 -- The counts of a tree's levels: how they are found one by one, how large they are, and which blocks a path goes through.
-use Rattle.std.proofs.Common.{◌≡◌, ℕ, zero, suc, ◌+◌, ◌-◌, ◌*◌, ◌/◌, ◌^◌, ◌<◌, ◌≤◌, List, [], ◌∷◌, ◌++◌, length, take, drop, set, replicate, get_or, refl, sym, ap, ◌∙◌, subst, ⊎_elim, arith, lit<}
+use Rattle.std.proofs.Common.{◌≡◌, ℕ, zero, suc, ◌+◌, ◌-◌, ◌*◌, ◌/◌, ◌^◌, ◌<◌, ◌≤◌, Bool, true, false, if◌then◌else◌, List, [], ◌∷◌, ◌++◌, length, take, drop, set, replicate, get_or, refl, sym, ap, ◌∙◌, subst, ⊎_elim, arith, lit<}
 use Rattle.std.proofs.Math.Nat.{pow-suc, pow-succ', one-le-pow, pow-le-pow_right, div-div-eq-div-mul}
 use Rattle.std.proofs.lemmas.Bool.{le-leb, lt-leb, cases_lt}
 use Rattle.std.proofs.lemmas.List.{append-nil, append_assoc, take_more_set, take-append-drop, drop-set-lt, drop-drop, drop_more, length-take-le, get_or_append_left}
 use Rattle.std.proofs.Math.ListN.{length-set}
-use Rattle.inc_tree.specs.Geometry.{data_blocks, blocks_above, IsLevels, levels, level_counts, depth, total, hash_blocks, level_count, level_start}
+use Rattle.inc_tree.specs.Geometry.{Shape, tree_of, flat_of, blocks_of, data_blocks, blocks_above, IsLevels, levels, level_counts, depth, total, hash_blocks, level_count, level_start}
 use Rattle.inc_tree.specs.Limits.{most_size, most_levels}
-use Rattle.inc_tree.specs.Cached.{Holds, padded_counts}
+use Rattle.inc_tree.specs.Cached.{Holds, padded_counts, shape_with}
 
 pub levels_done : (most below : ℕ) → below ≤ 1 → levels most below ≡ []
 unfolding levels
@@ -41,12 +41,20 @@ total_more most count rest below bound h =
     (λ (done : below ≤ 1). omega (arith, total_done (suc most) below done))
     (cases_lt 1 below)
 
-pub hash_small : (size : ℕ) → size ≤ most_size → total (level_counts size) ≤ 2065
+levels_small : (blocks : ℕ) → blocks ≤ 2 ^ 22 → total (levels 9 blocks) ≤ 33027
+levels_small blocks h =
+    total_more 8 32768 259 blocks (λ b hb.
+    total_more 7 256 3 b (λ c hc.
+    total_more 6 2 1 c (λ d hd.
+    total_more 5 1 0 d (λ e he. total_done 5 e he) (omega arith)) (omega arith)) (omega arith)) (omega arith)
+
+flat_small : (flat : Bool) (counts : List ℕ) (most : ℕ) → total counts ≤ most → total (if flat then [] else counts) ≤ most
+flat_small true counts most h = omega arith
+flat_small false counts most h = h
+
+pub hash_small : (shape : Shape) → shape.size ≤ most_size → total (level_counts shape) ≤ 33027
 unfolding level_counts
-hash_small size h =
-    total_more 8 2048 17 (data_blocks size) (λ b hb.
-    total_more 7 16 1 b (λ c hc.
-    total_more 6 1 0 c (λ d hd. total_done 6 d hd) (omega arith)) (omega arith)) (omega arith)
+hash_small shape h = flat_small shape.flat (levels 9 (data_blocks shape)) 33027 (levels_small (data_blocks shape) (omega arith))
 
 pub total_rest_le : (k : ℕ) (counts : List ℕ) → total (drop k counts) ≤ total counts
 total_rest_le zero counts = omega arith
@@ -101,7 +109,7 @@ pub record LevelsSoFar (blocks below height : ℕ) (counts : List ℕ) : Type 0 
   pub found : take height counts ++ levels (9 - height) below ≡ levels 9 blocks
   pub rest : drop height counts ≡ replicate (most_levels - height) 0
 
-pub levels_start : (blocks : ℕ) → blocks ≤ 2 ^ 18 → LevelsSoFar blocks blocks 0 (replicate most_levels 0)
+pub levels_start : (blocks : ℕ) → blocks ≤ 2 ^ 22 → LevelsSoFar blocks blocks 0 (replicate most_levels 0)
 levels_start blocks h = record { low = omega arith; bound = omega arith; places = refl; found = refl; rest = refl }
 
 pub height_low : (below height : ℕ) → height ≤ most_levels → below ≤ 128 ^ (most_levels - height) → 1 < below → height < most_levels
@@ -132,17 +140,17 @@ levels_step blocks below height counts so more =
           refl;
     }
 
-pub levels_of : (size : ℕ) → size ≤ most_size → IsLevels (data_blocks size) (level_counts size)
+pub levels_of : (size : ℕ) → size ≤ most_size → IsLevels (data_blocks (tree_of size)) (level_counts (tree_of size))
 unfolding level_counts
-levels_of size small = levels_are 9 (data_blocks size) (omega arith)
+levels_of size small = levels_are 9 (blocks_of size) (omega arith)
 
-pub levels_found : (size below height : ℕ) (counts : List ℕ) → LevelsSoFar (data_blocks size) below height counts → below ≤ 1
-    → size ≤ most_size → Holds size (data_blocks size) height counts
+pub levels_found : (size below height : ℕ) (counts : List ℕ) → LevelsSoFar (blocks_of size) below height counts → below ≤ 1
+    → size ≤ most_size → Holds size false (blocks_of size) height counts
 unfolding level_counts padded_counts
 levels_found size below height counts so done small =
-    let all : take height counts ≡ levels 9 (data_blocks size) =
+    let all : take height counts ≡ levels 9 (blocks_of size) =
     sym (append-nil (take height counts)) ∙ (ap (λ (above : List ℕ). take height counts ++ above) (sym (levels_done (9 - height) below done)) ∙ so.found) in
-    let high : height ≡ length (levels 9 (data_blocks size)) =
+    let high : height ≡ length (levels 9 (blocks_of size)) =
     sym (length-take-le height counts (omega (arith, so.places))) ∙ ap length all in
     record {
       small = small;
@@ -151,35 +159,55 @@ levels_found size below height counts so done small =
       low = omega (arith, so.low);
       counts_are = sym (take-append-drop height counts) ∙ (
           ap (λ (front : List ℕ). front ++ drop height counts) all
-          ∙ ap (λ (back : List ℕ). levels 9 (data_blocks size) ++ back)
+          ∙ ap (λ (back : List ℕ). levels 9 (blocks_of size) ++ back)
           (so.rest ∙ ap (λ (n : ℕ). replicate (most_levels - n) 0) high));
     }
 
--- a reader's look-up
-pub count_at : (size blocks height level : ℕ) (counts : List ℕ) → Holds size blocks height counts → level < depth size
-    → get_or counts level 0 ≡ level_count size level
-unfolding padded_counts
-count_at size blocks height level counts holds there =
-    rw holds.counts_are (get_or_append_left (level_counts size) (replicate (most_levels - depth size) 0) 0 level there)
-
-pub rest_small : (size level : ℕ) → size ≤ most_size → total (drop level (level_counts size)) ≤ 2065
-rest_small size level h = omega (arith, total_rest_le level (level_counts size), hash_small size h)
-
-pub rest_more : (size blocks height level : ℕ) (counts : List ℕ) → Holds size blocks height counts → level < depth size
-    → total (drop level (level_counts size)) ≡ get_or counts level 0 + total (drop (level + 1) (level_counts size))
-rest_more size blocks height level counts holds there =
-    rw (count_at size blocks height level counts holds there) (total_from level (level_counts size) there)
-
-pub start_within : (size level : ℕ) → level < depth size → level_start size level + level_count size level ≤ hash_blocks size
-start_within size level there =
-    omega (arith, total_from level (level_counts size) there, total_rest_le level (level_counts size))
-
-pub path_within : (size index level : ℕ) → index < data_blocks size → level < depth size → index / 128 ^ (level + 1) < level_count size level
+-- a flat shape has no level
+pub flat_levels : (size : ℕ) → level_counts (flat_of size) ≡ []
 unfolding level_counts
-path_within size index level here there = above_within 9 (data_blocks size) level index here there
+flat_levels size = refl
 
-pub power_small : (level : ℕ) → level < most_levels → 128 ^ (level + 1) ≤ 2 ^ 21
+pub flat_holds : (size : ℕ) → size ≤ most_size → Holds size true (blocks_of size) 0 (replicate most_levels 0)
+unfolding level_counts padded_counts
+flat_holds size small = record { small = small; blocks_are = refl; height_is = refl; low = omega arith; counts_are = refl }
+
+-- a reader's look-up
+pub count_at : (size : ℕ) (flat : Bool) (blocks height level : ℕ) (counts : List ℕ) → Holds size flat blocks height counts
+    → level < depth (shape_with size flat) → get_or counts level 0 ≡ level_count (shape_with size flat) level
+unfolding padded_counts
+count_at size flat blocks height level counts holds there =
+    let shape : Shape = shape_with size flat in
+    rw holds.counts_are (get_or_append_left (level_counts shape) (replicate (most_levels - depth shape) 0) 0 level there)
+
+pub rest_small : (shape : Shape) (level : ℕ) → shape.size ≤ most_size → total (drop level (level_counts shape)) ≤ 33027
+rest_small shape level h = omega (arith, total_rest_le level (level_counts shape), hash_small shape h)
+
+pub rest_more : (size : ℕ) (flat : Bool) (blocks height level : ℕ) (counts : List ℕ) → Holds size flat blocks height counts
+    → level < depth (shape_with size flat)
+    → total (drop level (level_counts (shape_with size flat))) ≡ get_or counts level 0 + total (drop (level + 1) (level_counts (shape_with size flat)))
+rest_more size flat blocks height level counts holds there =
+    rw (count_at size flat blocks height level counts holds there) (total_from level (level_counts (shape_with size flat)) there)
+
+pub start_within : (shape : Shape) (level : ℕ) → level < depth shape → level_start shape level + level_count shape level ≤ hash_blocks shape
+start_within shape level there =
+    omega (arith, total_from level (level_counts shape) there, total_rest_le level (level_counts shape))
+
+flat_within : (flat : Bool) (counts : List ℕ) (level place : ℕ) → (level < length counts → place < get_or counts level 0)
+    → level < length (if flat then [] else counts) → place < get_or (if flat then [] else counts) level 0
+flat_within true counts level place h there = absurd (omega arith)
+flat_within false counts level place h there = h there
+
+pub path_within : (shape : Shape) (index level : ℕ) → index < data_blocks shape → level < depth shape → index / 128 ^ (level + 1) < level_count shape level
+unfolding level_counts
+path_within shape index level here there =
+    flat_within shape.flat (levels 9 (data_blocks shape)) level (index / 128 ^ (level + 1)) (λ t. above_within 9 (data_blocks shape) level index here t) there
+
+pub power_small : (level : ℕ) → level < most_levels → 128 ^ (level + 1) ≤ 2 ^ 28
 power_small level h = let low : level + 1 ≤ most_levels = omega arith in pow-le-pow_right {n = 128} (lit< tt) low
 
-pub power_positive : (level : ℕ) → 0 < 128 ^ (level + 1)
-power_positive level = one-le-pow (level + 1) 128 (lit< tt)
+pub power_positive : (level : ℕ) → 0 < 128 ^ level
+power_positive level = one-le-pow level 128 (lit< tt)
+
+pub slot_power_small : (level : ℕ) → level < most_levels → 128 ^ level ≤ 2 ^ 28
+slot_power_small level h = let low : level ≤ most_levels = omega arith in pow-le-pow_right {n = 128} (lit< tt) low

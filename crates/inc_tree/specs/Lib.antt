@@ -1,6 +1,9 @@
 pub mod Cached
 pub mod Geometry
 pub mod Inverse
+pub mod Lanes
 pub mod Limits
 pub mod Path
+pub mod Shown
+pub mod Unproved
 pub mod Verified

@@ -1,7 +1,7 @@
 -- A Merkle path from a data block to the root (fs-verity): at each level a hash block, leaf level first.
 use Rattle.std.specs.Prelude.{◌≡◌, ◌≢◌, ℕ, zero, suc, ◌-◌, ◌*◌, ◌<◌, ◌≤◌, nat_lt, if◌then◌else◌, List, [], ◌++◌, length, take, drop, replicate, slice_index_or, Option, Some, None, bytes_eq}
 use Rattle.sha2.specs.Sha256.{sha256}
-use Rattle.inc_tree.specs.Geometry.{depth, path_slot}
+use Rattle.inc_tree.specs.Geometry.{Shape, depth, path_slot}
 
 -- a block as it is hashed: zeros stand after its last byte, up to 4096
 abbrev pub padded : List ℕ → List ℕ
@@ -29,8 +29,8 @@ digest_wanted root index path level =
     if nat_lt level (length path) then slot_of (block_at path level) (path_slot index level) else root
 
 -- the path proves the block: at every level, the root's too, the two digests are one
-pub record IsProof (root : List ℕ) (size index : ℕ) (bytes : List ℕ) (path : List (List ℕ)) : Type 0 where
-  pub full : length path ≡ depth size
+pub record IsProof (root : List ℕ) (shape : Shape) (index : ℕ) (bytes : List ℕ) (path : List (List ℕ)) : Type 0 where
+  pub full : length path ≡ depth shape
   pub each : (level : ℕ) → level ≤ length path → digest_below bytes path level ≡ digest_wanted root index path level
 
 -- the path fails first at this level

@@ -1,7 +1,7 @@
 -- A checked block, and what a check makes it from.
 use Rattle.std.specs.Prelude.{◌≡◌, ℕ, List, take}
 use Rattle.inc_tree.specs.declared.verified.Verified.{Verified}
-use Rattle.inc_tree.specs.Geometry.{block_len}
+use Rattle.inc_tree.specs.Geometry.{Shape, block_len}
 use Rattle.inc_tree.specs.Path.{padded}
 
 -- the block's bytes of the file's content
@@ -9,14 +9,14 @@ abbrev pub content_of : Verified → List ℕ
 content_of block = take block.len block.bytes
 
 -- the bytes of a data block's content, of those that were given
-abbrev pub content_at : ℕ → ℕ → List ℕ → List ℕ
-content_at size index bytes = take (block_len size index) bytes
+abbrev pub content_at : Shape → ℕ → List ℕ → List ℕ
+content_at shape index bytes = take (block_len shape index) bytes
 
 -- the checked block is that of these arguments, and after its length it has zeros
-pub record IsMadeOf (root : List ℕ) (size index : ℕ) (bytes : List ℕ) (path : List (List ℕ)) (block : Verified) : Type 0 where
+pub record IsMadeOf (root : List ℕ) (shape : Shape) (index : ℕ) (bytes : List ℕ) (path : List (List ℕ)) (block : Verified) : Type 0 where
   pub root_is : block.root ≡ root
-  pub geometry_is : block.geometry ≡ size
+  pub geometry_is : block.geometry ≡ shape
   pub index_is : block.index ≡ index
-  pub len_is : block.len ≡ block_len size index
-  pub bytes_are : block.bytes ≡ padded (content_at size index bytes)
+  pub len_is : block.len ≡ block_len shape index
+  pub bytes_are : block.bytes ≡ padded (content_at shape index bytes)
   pub path_is : block.path ≡ path

@@ -2,24 +2,31 @@
 //! block, the path from a data block to the root, and a block whose path was checked.
 //!
 //! A [`Verified`] is a block that the root vouches for. `verify` alone makes one, and it answers exactly where each digest on the path
-//! is the one that the level above it names, up to the root itself.
+//! is the one that the level above it names, up to the root itself. A file without a signature has no tree and no root: its shape is
+//! flat, and its blocks are [`Unproved`]. [`Shown`] keeps the two apart for whoever prints a block.
 #![tactic(auto)]
 
 mod block;
 mod digest;
 mod geometry;
 mod path;
+mod shown;
 #[cfg(test)]
 mod tests;
+mod unproved;
 mod verified;
 
 pub use block::{Block, Path};
-pub use digest::digest_block;
+pub use digest::{digest_block, digest_blocks, digest_four};
 pub use geometry::{Geometry, TooLarge};
-pub use inc_bytes::Digest32;
-pub use path::{Broken, check_path};
+pub use path::{Broken, check_path, slot_digest};
+pub use shown::Shown;
 use std::alloc::AllocError;
+pub use unproved::Unproved;
 pub use verified::{Verified, verify};
+
+/// A SHA-256 digest (FIPS 180-4): 32 bytes.
+pub type Digest32 = [u8; DIGEST_SIZE];
 
 /// Want of memory, the one answer of this crate that may come at any time.
 pub type OutOfMemory = AllocError;
@@ -27,5 +34,11 @@ pub type OutOfMemory = AllocError;
 /// The bytes of a block, of data and of the hash area alike.
 pub const BLOCK_SIZE: usize = 4096;
 
+/// The bytes of a digest.
+pub const DIGEST_SIZE: usize = 32;
+
+/// The digests that a hash block holds.
+pub const DIGESTS_PER_BLOCK: u32 = 128;
+
 /// The most bytes that a file may have.
-pub const MOST_SIZE: u64 = 1 << 30;
+pub const MOST_SIZE: u64 = 1 << 34;

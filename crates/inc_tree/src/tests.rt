@@ -1,8 +1,8 @@
 ghost use Rattle.std.specs.Prelude.{◌<◌, ◌≤◌};
 
 use crate::{
-    BLOCK_SIZE, Block, Digest32, Geometry, MOST_SIZE, Path, TooLarge, Verified, check_path,
-    digest_block, verify,
+    BLOCK_SIZE, Block, Digest32, Geometry, Path, Shown, TooLarge, Unproved, Verified, check_path,
+    digest_block, digest_blocks, verify,
 };
 use std::alloc::{AllocError, Global};
 use std::process::Abort;
@@ -29,82 +29,44 @@ const ROOT_OF_NUMBER_5_AT_528384: Digest32 = [
     0x64, 0xfb, 0xb9, 0x11, 0x5a, 0xd3, 0xcd, 0xf7, 0x1e, 0x9c, 0xdb, 0x81, 0xdd, 0x76, 0x55, 0x89,
 ];
 
-#[derive(Clone, Copy)]
-struct Shape {
-    size: u64,
-    data: u32,
-    hashes: u32,
-    depth: u32,
-    counts: [u32; 3],
-    starts: [u32; 3],
-}
-
-const fn row(
-    size: u64,
-    data: u32,
-    hashes: u32,
-    depth: u32,
-    counts: [u32; 3],
-    starts: [u32; 3],
-) -> Shape {
-    Shape {
-        size,
-        data,
-        hashes,
-        depth,
-        counts,
-        starts,
-    }
+#[test]
+fn a_size_gives_the_levels_of_fs_verity(rt: HostRuntime) -> Result<(), Fail> {
+    expect_levels(&rt, 0, 0, &[]);
+    expect_levels(&rt, 904, 1, &[]);
+    expect_levels(&rt, 4096, 1, &[]);
+    expect_levels(&rt, 4097, 2, &[1]);
+    expect_levels(&rt, 524288, 128, &[1]);
+    expect_levels(&rt, 524289, 129, &[2, 1]);
+    expect_levels(&rt, 3145728, 768, &[6, 1]);
+    expect_levels(&rt, 67112960, 16385, &[129, 2, 1]);
+    expect_levels(&rt, 1073741824, 262144, &[2048, 16, 1]);
+    expect_levels(&rt, 17179869184, 4194304, &[32768, 256, 2, 1]);
+    assert_eq!(rt; Geometry::of(17179869185).err(), Some(TooLarge));
+    Ok(())
 }
 
 #[test]
-fn a_size_gives_the_shape_of_fs_verity(rt: HostRuntime) -> Result<(), Fail> {
-    let shapes = [
-        row(0, 0, 0, 0, [0, 0, 0], [0, 0, 0]),
-        row(1, 1, 0, 0, [0, 0, 0], [0, 0, 0]),
-        row(904, 1, 0, 0, [0, 0, 0], [0, 0, 0]),
-        row(4096, 1, 0, 0, [0, 0, 0], [0, 0, 0]),
-        row(4097, 2, 1, 1, [1, 0, 0], [0, 0, 0]),
-        row(524288, 128, 1, 1, [1, 0, 0], [0, 0, 0]),
-        row(524289, 129, 3, 2, [2, 1, 0], [1, 0, 0]),
-        row(528384, 129, 3, 2, [2, 1, 0], [1, 0, 0]),
-        row(3145728, 768, 7, 2, [6, 1, 0], [1, 0, 0]),
-        row(8388608, 2048, 17, 2, [16, 1, 0], [1, 0, 0]),
-        row(67112960, 16385, 132, 3, [129, 2, 1], [3, 1, 0]),
-        row(MOST_SIZE, 262144, 2065, 3, [2048, 16, 1], [17, 1, 0]),
-    ];
-    for shape in &shapes {
-        let tree = Geometry::of(shape.size).expect(&rt, "within the limit");
-        assert_eq!(rt; tree.size(), shape.size);
-        assert_eq!(rt;
-            tree.data_blocks(),
-            shape.data,
-            "data blocks at {}",
-            shape.size
-        );
-        assert_eq!(rt;
-            tree.hash_blocks(),
-            shape.hashes,
-            "hash blocks at {}",
-            shape.size
-        );
-        assert_eq!(rt; tree.depth(), shape.depth, "depth at {}", shape.size);
-        for level in 0..tree.depth() {
-            assert_eq!(rt;
-                tree.level_count(level),
-                shape.counts[level as usize],
-                "level {level} at {}",
-                shape.size
-            );
-            assert_eq!(rt;
-                tree.level_start(level),
-                shape.starts[level as usize],
-                "level {level} at {}",
-                shape.size
-            );
-        }
+fn a_flat_shape_has_no_level(rt: HostRuntime) -> Result<(), Fail> {
+    let tree = Geometry::flat_of(5000).expect(&rt, "within the limit");
+    assert!(rt; tree.is_flat());
+    assert_eq!(rt; tree.size(), 5000);
+    assert_eq!(rt; tree.data_blocks(), 2);
+    assert_eq!(rt; tree.hash_blocks(), 0);
+    assert_eq!(rt; tree.depth(), 0);
+    assert_eq!(rt; tree.block_len(1), 904);
+    assert_eq!(rt; Geometry::flat_of(17179869185).err(), Some(TooLarge));
+    Ok(())
+}
+
+#[test]
+fn the_last_block_of_the_greatest_file_has_four_levels(rt: HostRuntime) -> Result<(), Fail> {
+    let tree = Geometry::of(17179869184).expect(&rt, "within the limit");
+    assert_eq!(rt; tree.data_blocks(), 4194304);
+    assert_eq!(rt; tree.hash_blocks(), 33027);
+    assert_eq!(rt; tree.depth(), 4);
+    for (level, block) in [(0, 33026), (1, 258), (2, 2), (3, 0)] {
+        assert_eq!(rt; tree.path_block(4194303, level), block, "level {level}");
     }
-    assert_eq!(rt; Geometry::of(MOST_SIZE + 1).err(), Some(TooLarge));
     Ok(())
 }
 
@@ -181,6 +143,48 @@ fn what_stands_after_the_content_is_cleared(rt: HostRuntime) -> Result<(), Fail>
 }
 
 #[test]
+fn what_no_root_vouches_for_is_marked(rt: HostRuntime) -> Result<(), Fail> {
+    let tree = Geometry::flat_of(5000).expect(&rt, "within the limit");
+    assert_eq!(rt; tree.data_blocks(), 2);
+    let bytes = Block::of(rt.alloc(), &generated(7, 1))?.expect(&rt, "a whole block");
+    let shown = Shown::Unproved(Unproved::of(&tree, 1, bytes));
+    assert!(rt; !shown.is_proved());
+    assert_eq!(rt; shown.index(), 1);
+    assert_eq!(rt; shown.len(), 904);
+    assert_eq!(rt; shown.content().len(), 904);
+    assert_eq!(rt;
+        digest_block(shown.block().as_slice()),
+        digest_of_front(&generated(7, 1), 904)
+    );
+    Ok(())
+}
+
+#[test]
+fn five_blocks_are_hashed_each_into_its_place(rt: HostRuntime) -> Result<(), Fail> {
+    let alloc = rt.alloc();
+    let mut blocks = Vec::new(alloc);
+    for index in 0..5 {
+        let mut block = Block::of(alloc, &generated(7, 0))?.expect(&rt, "a whole block");
+        block.clear_from(if index % 2 == 0 { 0 } else { 904 });
+        blocks.push(block)?;
+    }
+    let mut digests = [[0; 32]; 5];
+    assert_eq!(rt; blocks.len(), 5);
+    digest_blocks(blocks.as_slice(), &mut digests);
+    for index in 0..5 {
+        assert!(rt;
+            digests[index]
+                == if index % 2 == 0 {
+                    ZEROS_DIGEST
+                } else {
+                    ROOT_OF_NUMBER_7_AT_904
+                }
+        );
+    }
+    Ok(())
+}
+
+#[test]
 fn blocks_are_made_and_given_back(rt: HostRuntime) -> Result<(), Fail> {
     let alloc = rt.alloc();
     assert!(rt; Block::of(alloc, &[7; 4095])?.is_none());
@@ -199,6 +203,21 @@ fn paths_are_made_and_given_back(rt: HostRuntime) -> Result<(), Fail> {
     assert_eq!(rt; path.as_slice().len(), 2);
     assert_eq!(rt; path.as_slice()[1].as_slice()[0], 2);
     Ok(())
+}
+
+// The levels' counts, leaf level first. In the hash area the top level stands first.
+fn expect_levels(rt: &impl Abort, size: u64, blocks: u32, counts: &[u32]) {
+    let tree = Geometry::of(size).expect(rt, "within the limit");
+    assert_eq!(rt; tree.size(), size);
+    assert_eq!(rt; tree.data_blocks(), blocks);
+    assert_eq!(rt; tree.depth() as usize, counts.len());
+    let mut start: u32 = 0;
+    for level in (0..tree.depth()).rev() {
+        assert_eq!(rt; tree.level_count(level), counts[level as usize]);
+        assert_eq!(rt; tree.level_start(level), start);
+        start = start.saturating_add(tree.level_count(level));
+    }
+    assert_eq!(rt; tree.hash_blocks(), start);
 }
 
 // The byte at place p of the generated content is (number + p + p / 4096) mod 251.
@@ -270,6 +289,7 @@ fn breaking_level(
     let tree = Geometry::of(528384).expect(rt, "within the limit");
     assert_eq!(rt; tree.data_blocks(), 129);
     assert_eq!(rt; tree.depth(), 2);
+    assert!(rt; !tree.is_flat());
     let path = path_of(rt, alloc, leaf, top)?;
     assert_eq!(rt; path.as_slice().len(), 2);
     let checked = check_path(
@@ -291,6 +311,7 @@ fn verified(
     let tree = Geometry::of(5000).expect(rt, "within the limit");
     assert_eq!(rt; tree.data_blocks(), 2);
     assert_eq!(rt; tree.depth(), 1);
+    assert!(rt; !tree.is_flat());
     let leaf = Block::of(alloc, leaf)?.expect(rt, "a whole block");
     let path = Path::of(alloc, &[leaf])?;
     assert_eq!(rt; path.as_slice().len(), 1);

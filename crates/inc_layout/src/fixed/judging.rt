@@ -1,38 +1,77 @@
-ghost use Rattle.std.specs.Prelude.{◌≡◌, ◌≢◌, ◌+◌, ◌≤◌, Ok, Err, IfOk, OnOk};
+ghost use Rattle.std.specs.Prelude.{◌≡◌, ◌≢◌, ◌+◌, ◌≤◌, Ok, Err, IfOk, IfErr, OnErr, OnOk, nat_le};
 ghost use Rattle.inc_bytes.specs.Tests.{first_failing, judge};
-ghost use Rattle.inc_entry.specs.Entry.{areas_of, places_of};
-ghost use Rattle.inc_header.specs.Header.{header_of};
-ghost use Rattle.inc_layout.specs.Fixed.{are_apart, area_tests, blob_span, blob_tests, is_inside, plain_of, IsInside};
-ghost use Rattle.inc_layout.specs.Told.{GivesFront};
+ghost use Rattle.inc_entry.specs.Entry.{area_places, areas_of};
+ghost use Rattle.inc_entry.specs.Spans.{are_apart, is_inside};
+ghost use Rattle.inc_layout.specs.Fixed.{area_tests, blob_span, blob_span_tests, plain_of};
+ghost use Rattle.inc_layout.specs.Opening.{AreRecordsInside};
 ghost use Rattle.inc_layout.specs.declared.fault.LayoutFault.TheVariants.{ReadFault as read_fault};
 
-use super::Front;
+use super::{Front, PlainFront};
 use crate::LayoutFault;
 use inc_bytes::Span;
 use inc_entry::{Areas, is_clear};
-use inc_header::{HeaderKind, read_header};
-use inc_md::SigRecord;
+use inc_header::HeaderKind;
+use inc_md::{ChainFault, Records, SigRecord};
 use inc_signature::{MOST_BLOB, SigFault};
 use inc_tree::{BLOCK_SIZE, Geometry};
 
-/// The header of a plain file that isn't too large, from the first bytes of a file.
+/// The bytes of a record's head, and of the two counts of a status record.
+const HEAD_SIZE: u64 = 23;
+
+const COUNTS_SIZE: u64 = 8;
+
+/// Takes the front of a plain file that isn't too large.
 #[tactic(auto, unfolding(crate::specs::Fixed::plain_of))]
-pub fn plain_front(b: &[u8]) -> Result<Front, LayoutFault>
-    ensures answer { GivesFront result (plain_of b.now) }
+pub fn plain_front(front: Front) -> Result<PlainFront, LayoutFault>
+    ensures answer { IfOk result (λ plain. plain_of front.header ≡ Ok plain.header) }
+    ensures refused { IfErr result (λ fault. plain_of front.header ≡ Err fault) }
+    ensures len { IfOk result (λ plain. plain.len ≡ front.len) }
     ensures judged { result ≢ Err read_fault }
 {
-    let header = read_header(b)?;
+    let Front { header, len } = front;
     let HeaderKind::Plain { first } = header.kind else {
         return Err(LayoutFault::Mapped);
     };
     let Ok(tree) = Geometry::of(header.size) else {
         return Err(LayoutFault::TooLarge);
     };
-    Ok(Front {
+    let Ok(flat) = Geometry::flat_of(header.size) else {
+        return Err(LayoutFault::TooLarge);
+    };
+    Ok(PlainFront {
         header,
+        len,
         first,
         tree,
+        flat,
     })
+}
+
+/// Refuses records that reach past the file's end. Where a file tells its bytes, the walk along its chain has done so already; where it
+/// tells nothing, the walk says nothing of what it found.
+pub fn check_inside(records: &Records, len: u64) -> Result<(), LayoutFault>
+    ensures inside { OnOk result (AreRecordsInside len records.now) }
+    ensures outside { OnErr result (AreRecordsInside len records.now → ⊥) }
+    ensures judged { result ≢ Err read_fault }
+{
+    if let Some(status) = records.status {
+        if !ends_by(status.at, COUNTS_SIZE, len) {
+            return Err(LayoutFault::Chain(ChainFault::Outside { at: status.at }));
+        }
+    }
+    if records.spans.len() > 0 {
+        if !ends_by(records.last, HEAD_SIZE, len) {
+            return Err(LayoutFault::Chain(ChainFault::Outside { at: records.last }));
+        }
+    }
+    Ok(())
+}
+
+/// Whether so many bytes from a place on end inside a file.
+fn ends_by(at: u64, count: u64, len: u64) -> bool
+    ensures value { result ≡ nat_le (at + count) len }
+{
+    count <= len && at <= len - count
 }
 
 /// Whether a span ends inside a file. An empty one does everywhere.
@@ -42,20 +81,26 @@ pub fn is_inside(span: Span, len: u64) -> bool
     span.len == 0 || (span.len <= len && span.at <= len - span.len)
 }
 
+/// The bytes of the signature blob.
+pub fn blob_span(signature: &SigRecord) -> Span
+    ensures value { result ≡ blob_span signature.now }
+{
+    Span {
+        at: signature.sig_at,
+        len: signature.sig_size as u64,
+    }
+}
+
 /// Whether the signature blob is short enough to be read.
-#[tactic(auto, unfolding(crate::specs::Fixed::blob_tests))]
+#[tactic(auto, unfolding(crate::specs::Fixed::blob_span_tests))]
 pub fn check_blob(signature: &SigRecord, len: u64) -> Result<(), LayoutFault>
-    ensures value { result ≡ judge (first_failing (blob_tests len signature.now)) tt }
+    ensures value { result ≡ judge (first_failing (blob_span_tests len signature.now)) tt }
     ensures judged { result ≢ Err read_fault }
 {
     if signature.sig_size as usize > MOST_BLOB {
         return Err(LayoutFault::Signature(SigFault::TooLong));
     }
-    let blob = Span {
-        at: signature.sig_at,
-        len: signature.sig_size as u64,
-    };
-    if !is_inside(blob, len) {
+    if !is_inside(blob_span(signature), len) {
         return Err(LayoutFault::SignatureOutside);
     }
     Ok(())
@@ -83,8 +128,8 @@ pub fn check_areas(
     count: u32,
     tree_size: u32,
 ) -> Result<(), LayoutFault>
-    requires { spans.now ≡ areas_of (places_of areas.now) }
-    ensures value { result ≡ judge (first_failing (area_tests areas.now.len (places_of areas.now) count tree_size)) tt }
+    requires { spans.now ≡ areas_of (area_places areas.now) }
+    ensures value { result ≡ judge (first_failing (area_tests areas.now.len (area_places areas.now) count tree_size)) tt }
     ensures judged { result ≢ Err read_fault }
 {
     let blocks = areas.geometry.hash_blocks() as u64;

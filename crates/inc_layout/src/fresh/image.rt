@@ -1,18 +1,20 @@
-ghost use Rattle.std.specs.Prelude.{◌≡◌, ◌^◌, ◌≤◌, ◌++◌, length, IfOk, OnOk};
+ghost use Rattle.std.specs.Prelude.{◌≡◌, ◌^◌, ◌≤◌, ◌+◌, ◌*◌, ◌++◌, length, IfOk, OnOk};
 ghost use Rattle.inc_header.specs.Header.{IsHeader, header_bytes};
-ghost use Rattle.inc_layout.specs.Fresh.{block_start, entry_count, fresh_header, fresh_length, fresh_of, map_place, map_record, signature_record, status_record, tree_bytes, tree_place};
+ghost use Rattle.inc_tree.specs.Limits.{most_size};
+ghost use Rattle.inc_tree.specs.Geometry.{data_blocks, blocks_of};
+ghost use Rattle.inc_layout.specs.Fresh.{block_start, entry_count, fresh_header, fresh_length, fresh_of, image_of, map_place, map_record, signature_record, status_record, tree_bytes, tree_place, unsigned_length, unsigned_map_place, unsigned_of};
 
-use super::record::{BLOB, FIRST_RECORD, push_map, push_signature, push_status};
+use super::FreshImage;
+use super::record::{BLOB, FIRST_RECORD, UNSIGNED_MAP, push_map, push_signature, push_status};
 use crate::OutOfMemory;
 use inc_bytes::Id;
+use inc_entry::ENTRY_SIZE;
 use inc_header::{Header, HeaderKind, write_header};
+use inc_io::Bytes;
 use inc_tree::{BLOCK_SIZE, Geometry};
 use std::alloc::Global;
 
-/// The bytes of a block map entry.
-const ENTRY_SIZE: u64 = 10;
-
-/// Where things lie in a fresh file.
+/// Where things lie in a fresh signed file.
 #[derive(Clone, Copy)]
 struct Plan {
     map_at: u64,
@@ -63,41 +65,86 @@ fn plan_of(tree: &Geometry, blob_size: u32) -> Plan
     }
 }
 
-/// The header and the records.
-fn front_of(
-    alloc: Global,
-    plan: &Plan,
-    size: u64,
-    id: Id,
-    blob_size: u32,
-) -> Result<Vec<u8>, OutOfMemory>
-    ensures value { IfOk result (λ front. front.items ≡ header_bytes (fresh_header size id) ++ map_record plan.now.map_at plan.now.entries ++ signature_record blob_size plan.now.tree_size plan.now.tree_at ++ status_record) }
-    ensures header { OnOk result (IsHeader (fresh_header size id)) }
+/// The header of a fresh file.
+fn header_of(size: u64, id: Id) -> Header
+    ensures value { result ≡ fresh_header size id }
+    ensures header { IsHeader (fresh_header size id) }
 {
-    let header = Header {
+    Header {
         kind: HeaderKind::Plain {
             first: FIRST_RECORD,
         },
         size,
         id,
-    };
-    let mut front = Vec::with_capacity(alloc, plan.len as usize)?;
-    front.extend_from_slice(&write_header(&header))?;
+    }
+}
+
+/// The header, the records and the blob of a signed file.
+fn signed_front(
+    alloc: Global,
+    plan: &Plan,
+    header: &Header,
+    blob: &[u8],
+) -> Result<Vec<u8>, OutOfMemory>
+    requires header { IsHeader header.now }
+    requires blob { length blob.now ≤ 8096 }
+    ensures value { IfOk result (λ front. front.items ≡ header_bytes header.now ++ map_record plan.now.map_at plan.now.entries ++ signature_record (length blob.now) plan.now.tree_size plan.now.tree_at ++ status_record ++ blob.now) }
+{
+    let mut front = Vec::with_capacity(alloc, plan.map_at as usize)?;
+    front.extend_from_slice(&write_header(header))?;
     push_map(&mut front, plan.map_at, plan.entries)?;
-    push_signature(&mut front, blob_size, plan.tree_size, plan.tree_at)?;
+    push_signature(&mut front, blob.len() as u32, plan.tree_size, plan.tree_at)?;
+    push_status(&mut front)?;
+    front.extend_from_slice(blob)?;
+    Ok(front)
+}
+
+/// A fresh signed file, for a good blob.
+pub fn signed_image(
+    alloc: Global,
+    tree: &Geometry,
+    id: Id,
+    blob: &[u8],
+) -> Result<FreshImage, OutOfMemory>
+    requires { length blob.now ≤ 8096 }
+    ensures value { IfOk result (λ image. image_of image ≡ fresh_of tree.now id blob.now) }
+    ensures len { IfOk result (λ image. image.len ≡ fresh_length tree.now (length blob.now)) }
+    ensures fits { IfOk result (λ image. length image.front ≤ image.len) }
+    ensures header { OnOk result (IsHeader (fresh_header tree.now.size id)) }
+{
+    let plan = plan_of(tree, blob.len() as u32);
+    let header = header_of(tree.size(), id);
+    let front = signed_front(alloc, &plan, &header, blob)?;
+    Ok(FreshImage {
+        front: Bytes::from_vec(front),
+        len: plan.len,
+    })
+}
+
+/// The header and the records of an unsigned file.
+fn unsigned_front(alloc: Global, header: &Header, blocks: u32) -> Result<Vec<u8>, OutOfMemory>
+    requires { IsHeader header.now }
+    ensures value { IfOk result (λ front. front.items ≡ header_bytes header.now ++ map_record unsigned_map_place blocks ++ status_record) }
+{
+    let mut front = Vec::with_capacity(alloc, UNSIGNED_MAP as usize)?;
+    front.extend_from_slice(&write_header(header))?;
+    push_map(&mut front, UNSIGNED_MAP, blocks)?;
     push_status(&mut front)?;
     Ok(front)
 }
 
-/// The image for a good blob.
-pub fn image_of(alloc: Global, tree: &Geometry, id: Id, blob: &[u8]) -> Result<Vec<u8>, OutOfMemory>
-    requires { length blob.now ≤ 8096 }
-    ensures value { IfOk result (λ image. image.items ≡ fresh_of tree.now id blob.now) }
-    ensures header { OnOk result (IsHeader (fresh_header tree.now id)) }
+/// A fresh unsigned file.
+pub fn unsigned_image(alloc: Global, flat: &Geometry, id: Id) -> Result<FreshImage, OutOfMemory>
+    ensures value { IfOk result (λ image. image_of image ≡ unsigned_of flat.now.size id) }
+    ensures len { IfOk result (λ image. image.len ≡ unsigned_length flat.now.size) }
+    ensures fits { IfOk result (λ image. length image.front ≤ image.len) }
+    ensures header { OnOk result (IsHeader (fresh_header flat.now.size id)) }
 {
-    let plan = plan_of(tree, blob.len() as u32);
-    let mut image = front_of(alloc, &plan, tree.size(), id, blob.len() as u32)?;
-    image.extend_from_slice(blob)?;
-    image.resize(plan.len as usize, 0)?;
-    Ok(image)
+    let blocks = flat.data_blocks();
+    let header = header_of(flat.size(), id);
+    let front = unsigned_front(alloc, &header, blocks)?;
+    Ok(FreshImage {
+        front: Bytes::from_vec(front),
+        len: UNSIGNED_MAP + ENTRY_SIZE * blocks as u64,
+    })
 }

@@ -7,11 +7,14 @@ use crate::OutOfMemory;
 /// The places of a fresh file's records, and of what comes behind them.
 pub const FIRST_RECORD: u64 = 56;
 
-const SIGNATURE_RECORD: u64 = 91;
+const SECOND_RECORD: u64 = 91;
 
-const STATUS_RECORD: u64 = 138;
+const THIRD_RECORD: u64 = 138;
 
 pub const BLOB: u64 = 193;
+
+/// The place of an unsigned file's map, behind its two records.
+pub const UNSIGNED_MAP: u64 = 146;
 
 /// The types and sizes of the records.
 const MAP: u8 = 1;
@@ -65,7 +68,7 @@ fn push_head(image: &mut Vec<u8>, kind: u8, size: u16, next: u64) -> Result<(), 
 pub fn push_map(image: &mut Vec<u8>, base: u64, count: u32) -> Result<(), OutOfMemory>
     ensures value { OnOk result (image.new.items ≡ image.old.items ++ map_record base count) }
 {
-    push_head(image, MAP, MAP_SIZE, SIGNATURE_RECORD)?;
+    push_head(image, MAP, MAP_SIZE, SECOND_RECORD)?;
     push_u64(image, base)?;
     Ok(push_u32(image, count)?)
 }
@@ -79,7 +82,7 @@ pub fn push_signature(
 ) -> Result<(), OutOfMemory>
     ensures value { OnOk result (image.new.items ≡ image.old.items ++ signature_record blob_size tree_size tree_at) }
 {
-    push_head(image, SIGNATURE, SIGNATURE_SIZE, STATUS_RECORD)?;
+    push_head(image, SIGNATURE, SIGNATURE_SIZE, THIRD_RECORD)?;
     push_u32(image, blob_size)?;
     push_u64(image, BLOB)?;
     push_u32(image, tree_size)?;

@@ -1,5 +1,5 @@
 // The one maker of checked blocks.
-ghost use Rattle.std.specs.Prelude.{◌≡◌, ◌<◌, length, OnOk, IfOk, IfErr};
+ghost use Rattle.std.specs.Prelude.{◌≡◌, ◌<◌, false, length, OnOk, IfOk, IfErr};
 ghost use Rattle.inc_tree.specs.Geometry.{data_blocks, depth};
 ghost use Rattle.inc_tree.specs.Path.{IsProof, NamesBreak};
 ghost use Rattle.inc_tree.specs.Verified.{IsMadeOf, content_at};
@@ -16,6 +16,7 @@ pub fn verify(
     mut bytes: Block,
     path: Path,
 ) -> Result<Verified, Broken>
+    requires tree { tree.now.flat ≡ false }
     requires here { index < data_blocks tree.now }
     requires full { length path ≡ depth tree.now }
     ensures made { IfOk result (λ block. IsMadeOf root.now tree.now index bytes path block) }

@@ -1,5 +1,5 @@
-use Rattle.std.proofs.Common.{refl, rules, arith}
-use Rattle.inc_entry.specs.Entry.{places_of}
+use Rattle.std.proofs.Common.{refl, rules}
+use Rattle.inc_entry.specs.Entry.{area_places}
 use Rattle.inc_layout.proofs.EntryLemmas.{start_classes}
 use Rattle.inc_layout.proofs.block_map.read_classes.Goals as goal
 
@@ -10,5 +10,5 @@ loop-index-init g c = record {
   kept = refl;
   quiet = refl;
   count = search rules;
-  classes = start_classes _ (places_of c.args.areas.now) c.args.areas.now.len _ (search rules);
+  classes = start_classes _ (area_places c.args.areas.now) c.args.areas.now.len _ (search rules);
 }

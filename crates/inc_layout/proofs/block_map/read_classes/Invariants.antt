@@ -1,7 +1,7 @@
 use Rattle.std.proofs.Common.{◌≡◌, ◌-◌, ◌≤◌, ◌*◌, min, length}
 use Rattle.std.specs.Prelude.{IfSome}
-use Rattle.inc_entry.specs.Entry.{map_span, places_of}
-use Rattle.inc_layout.specs.Fixed.{IsInside}
+use Rattle.inc_entry.specs.Entry.{map_span, area_places}
+use Rattle.inc_entry.specs.Spans.{IsInside}
 use Rattle.inc_layout.specs.Opening.{HasClasses}
 use Rattle.inc_layout.proofs.block_map.read_classes.Given as goal
 
@@ -12,8 +12,8 @@ invariant-loop-index g l = record {
   kept : g.B.Backing.kept l.file ≡ g.B.Backing.kept l.fn.file;
   quiet : g.B.Backing.faults l.file ≡ g.B.Backing.faults l.fn.file;
   count : length l.classes.items ≡ l.index;
-  classes : IfSome (g.B.Backing.reads (g.B.Backing.kept l.fn.file)) (λ bytes. IsInside (length bytes) (map_span (places_of l.areas)) → l.areas.len ≡ length bytes
-      → HasClasses (places_of l.areas) bytes l.index l.classes.items);
+  classes : IfSome (g.B.Backing.reads (g.B.Backing.kept l.fn.file)) (λ bytes. IsInside (length bytes) (map_span (area_places l.areas)) → l.areas.len ≡ length bytes
+      → HasClasses (area_places l.areas) bytes l.index l.classes.items);
 }
 
 abbrev pub decreases-loop-index : goal.decreases-loop-index

@@ -5,4 +5,4 @@ use Rattle.inc_layout.proofs.checking.compare_digests.Given as goal
 
 abbrev pub invariant-loop-level : goal.invariant-loop-level
 invariant-loop-level l = (content : List ℕ) (hashes : List (List ℕ)) → KnowsPath l.opened l.path l.index content hashes
-    → HoldsBelow l.opened.sig.root l.index content hashes l.level l.level l.place l.got
+    → HoldsBelow l.root l.index content hashes l.level l.level l.got

@@ -4,4 +4,4 @@ use Rattle.inc_layout.specs.StaticRead.{is_missing}
 use Rattle.inc_layout.proofs.static_read.check_path_there.Given as goal
 
 abbrev pub invariant-loop-level : goal.invariant-loop-level
-invariant-loop-level l = first_below l.level (is_missing l.opened l.index) ≡ None
+invariant-loop-level l = first_below l.level (is_missing l.areas l.classes l.index) ≡ None

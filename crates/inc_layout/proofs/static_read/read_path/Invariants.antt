@@ -1,8 +1,7 @@
-use Rattle.std.proofs.Common.{◌≡◌, ℕ, ◌+◌, ◌*◌, ◌<◌, ◌≤◌, length}
+use Rattle.std.proofs.Common.{◌≡◌, length}
 use Rattle.std.specs.Prelude.{IfSome}
-use Rattle.inc_tree.specs.Geometry.{hash_blocks}
 use Rattle.inc_layout.specs.Listed.{listed}
-use Rattle.inc_layout.specs.StaticRead.{hash_block}
+use Rattle.inc_layout.proofs.LoopSteps.{HasAll, on_path}
 use Rattle.inc_layout.proofs.static_read.read_path.Given as goal
 
 abbrev pub invariant-loop-level : goal.invariant-loop-level
@@ -10,6 +9,5 @@ invariant-loop-level g l = record {
   kept : g.B.Backing.kept l.file ≡ g.B.Backing.kept l.fn.file;
   quiet : g.B.Backing.faults l.file ≡ g.B.Backing.faults l.fn.file;
   count : length l.blocks.items ≡ l.level;
-  path : IfSome (g.B.Backing.reads (g.B.Backing.kept l.fn.file)) (λ bytes. (0 < hash_blocks l.areas.geometry → l.areas.hash_at + 4096 * hash_blocks l.areas.geometry ≤ length bytes)
-      → l.blocks.items ≡ listed (hash_block bytes l.areas l.index) l.level);
+  path : IfSome (g.B.Backing.reads (g.B.Backing.kept l.fn.file)) (λ bytes. HasAll l.areas bytes → l.blocks.items ≡ listed (on_path bytes l.areas l.index) l.level);
 }

@@ -1,5 +1,5 @@
 use Rattle.std.proofs.Common.{sym, arith}
-use Rattle.inc_model.proofs.Windows.{before_more, claim_at, claim_slot, claim_last}
+use Rattle.inc_model.proofs.lists.RowSlots.{before_more, claim_at, claim_slot, claim_last}
 use Rattle.inc_model.proofs.claims.place_of.Goals as goal
 
 pub returns-then-comes_before-clause-missing : goal.returns-then-comes_before-clause-missing

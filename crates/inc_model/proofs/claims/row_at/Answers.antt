@@ -1,5 +1,5 @@
 use Rattle.std.proofs.Common.{sym, arith}
-use Rattle.inc_model.proofs.Windows.{window_at, no_window}
+use Rattle.inc_model.proofs.lists.RowSlots.{window_at, no_window}
 use Rattle.inc_model.proofs.claims.row_at.Goals as goal
 
 pub returns-then-is_same_window-clause-there : goal.returns-then-is_same_window-clause-there

@@ -1,5 +1,5 @@
 use Rattle.std.proofs.Common.{arith}
-use Rattle.inc_model.proofs.Windows.{flight_slot, flight_last}
+use Rattle.inc_model.proofs.lists.RowSlots.{flight_slot, flight_last}
 use Rattle.inc_model.proofs.flight.slot_of.Goals as goal
 
 pub returns-then-row-other : goal.returns-then-row-other

@@ -1,5 +1,5 @@
 -- the rows before the place aren't above
-use Rattle.inc_model.proofs.Windows.{NoneAbove}
+use Rattle.inc_model.proofs.lists.RowSlots.{NoneAbove}
 use Rattle.inc_model.proofs.flight.slot_of.Given as goal
 
 abbrev pub invariant-loop-i : goal.invariant-loop-i

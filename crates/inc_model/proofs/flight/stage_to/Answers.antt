@@ -1,6 +1,6 @@
 use Rattle.std.proofs.Common.{arith}
 use Rattle.inc_model.specs.Places.{staged}
-use Rattle.inc_model.proofs.Windows.{map_more}
+use Rattle.inc_model.proofs.lists.RowSlots.{map_more}
 use Rattle.inc_model.proofs.flight.stage_to.Goals as goal
 
 pub loop-row-preserved : goal.loop-row-preserved

@@ -1,5 +1,5 @@
 use Rattle.std.proofs.Common.{sym, arith}
-use Rattle.inc_model.proofs.Finding.{add_there, slot_here, slot_last}
+use Rattle.inc_model.proofs.lists.KeySlots.{add_there, slot_here, slot_last}
 use Rattle.inc_model.proofs.indices.slot_of.Goals as goal
 
 pub returns-then-index-other-clause-slot : goal.returns-then-index-other-clause-slot

@@ -1,5 +1,5 @@
 -- the indices before the place are lower
-use Rattle.inc_model.proofs.Finding.{LowerBelow}
+use Rattle.inc_model.proofs.lists.KeySlots.{LowerBelow}
 use Rattle.inc_model.proofs.indices.slot_of.Given as goal
 
 abbrev pub invariant-loop-i : goal.invariant-loop-i

@@ -1,5 +1,5 @@
 use Rattle.std.proofs.Common.{arith}
-use Rattle.inc_model.proofs.Finding.{key_at, key_slot, key_last}
+use Rattle.inc_model.proofs.lists.KeySlots.{key_at, key_slot, key_last}
 use Rattle.inc_model.proofs.keyed.place_of.Goals as goal
 
 pub returns-then-row-key-clause-there : goal.returns-then-row-key-clause-there

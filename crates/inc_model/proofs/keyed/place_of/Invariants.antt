@@ -1,5 +1,5 @@
 -- the keys before the place are lower
-use Rattle.inc_model.proofs.Finding.{AllBelow}
+use Rattle.inc_model.proofs.lists.KeySlots.{AllBelow}
 use Rattle.inc_model.proofs.keyed.place_of.Given as goal
 
 abbrev pub invariant-loop-i : goal.invariant-loop-i

@@ -1,4 +1,4 @@
-use Rattle.inc_model.proofs.Running.{windows_own, own_join, others_keep}
+use Rattle.inc_model.proofs.runs.Histories.{windows_own, own_join, others_keep}
 use Rattle.inc_model.proofs.laws.entries_are_owned.Goals as goal
 
 pub returns-clause-windows : goal.returns-clause-windows

@@ -1,5 +1,5 @@
-use Rattle.inc_model.proofs.Running.{step_stays, step_more, legal_facts, legal_more}
-use Rattle.inc_model.proofs.Stepping.{opening_facts, opening_more}
+use Rattle.inc_model.proofs.runs.Histories.{step_stays, step_more, legal_facts, legal_more}
+use Rattle.inc_model.proofs.facts_kept.Step.{opening_facts, opening_more}
 use Rattle.inc_model.proofs.laws.facts_stay.Goals as goal
 
 pub returns-clause-opening : goal.returns-clause-opening

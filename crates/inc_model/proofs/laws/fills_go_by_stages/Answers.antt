@@ -1,7 +1,8 @@
-use Rattle.inc_model.proofs.Advancing.{advances}
-use Rattle.inc_model.proofs.Faulting.{gate_begins, faults_seen, faults_stay}
-use Rattle.inc_model.proofs.Staying.{leaves_only}
-use Rattle.inc_model.proofs.Storing.{acknowledges_synced, opens_by_gate, begins_by_gate, fails_for_good}
+use Rattle.inc_model.proofs.steps.Stages.{advances}
+use Rattle.inc_model.proofs.steps.Syncs.{settles_all, map_stays}
+use Rattle.inc_model.proofs.steps.Faults.{gate_begins, faults_seen, faults_stay}
+use Rattle.inc_model.proofs.unchanged.Flight.{leaves_only}
+use Rattle.inc_model.proofs.unchanged.Map.{acknowledges_synced, opens_by_gate, begins_by_gate, fails_for_good}
 use Rattle.inc_model.proofs.laws.fills_go_by_stages.Goals as goal
 
 pub returns-clause-stages : goal.returns-clause-stages
@@ -30,3 +31,9 @@ returns-clause-faults c = faults_seen
 
 pub returns-clause-quiet : goal.returns-clause-quiet
 returns-clause-quiet c = faults_stay
+
+pub returns-clause-syncs : goal.returns-clause-syncs
+returns-clause-syncs c = settles_all
+
+pub returns-clause-map : goal.returns-clause-map
+returns-clause-map c = map_stays

@@ -1,4 +1,4 @@
-use Rattle.inc_model.proofs.Running.{front_legal, rest_legal, both_legal, after_both, after_one, entry_at}
+use Rattle.inc_model.proofs.runs.Histories.{front_legal, rest_legal, both_legal, after_both, after_one, entry_at}
 use Rattle.inc_model.proofs.laws.histories_join.Goals as goal
 
 pub returns-clause-front : goal.returns-clause-front

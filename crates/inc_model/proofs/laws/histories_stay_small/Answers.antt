@@ -1,5 +1,5 @@
-use Rattle.inc_model.proofs.Counting.{claimed_room, claims_counted, claims_of_others}
-use Rattle.inc_model.proofs.Running.{stays_within}
+use Rattle.inc_model.proofs.steps.Places.{claimed_room, claims_counted, claims_of_others}
+use Rattle.inc_model.proofs.runs.Histories.{stays_within}
 use Rattle.inc_model.proofs.laws.histories_stay_small.Goals as goal
 
 pub returns-clause-limit : goal.returns-clause-limit

@@ -1,4 +1,5 @@
-use Rattle.inc_model.proofs.Answering.{times_out, waits_absent, waits_floor, names_lowest, hands_out}
+use Rattle.inc_model.proofs.steps.Paths.{lacks_no_path}
+use Rattle.inc_model.proofs.steps.Polls.{times_out, waits_absent, waits_floor, names_lowest, hands_out}
 use Rattle.inc_model.proofs.laws.polls_go_by_the_map.Goals as goal
 
 pub returns-clause-late : goal.returns-clause-late
@@ -15,3 +16,6 @@ returns-clause-path c = λ first s who serial now hash row f. names_lowest first
 
 pub returns-clause-handed : goal.returns-clause-handed
 returns-clause-handed c = λ first s who serial now row digest f. hands_out first s who serial now row f digest
+
+pub returns-clause-no_tree : goal.returns-clause-no_tree
+returns-clause-no_tree c = lacks_no_path

@@ -1,4 +1,4 @@
-use Rattle.inc_model.proofs.Telling.{length-presence, presence_at}
+use Rattle.inc_model.proofs.lists.Presence.{length-presence, presence_at}
 use Rattle.inc_model.proofs.laws.ranges_tell_the_map.Goals as goal
 
 pub returns-clause-whole : goal.returns-clause-whole

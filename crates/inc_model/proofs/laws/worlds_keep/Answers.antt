@@ -1,7 +1,7 @@
-use Rattle.inc_model.proofs.Answering.{times_out_absent, gate_completes}
-use Rattle.inc_model.proofs.Handing.{hands_out_there, names_absent}
-use Rattle.inc_model.proofs.Moving.{keeps_acknowledged, acknowledged_there}
-use Rattle.inc_model.proofs.Sourcing.{digests_come}
+use Rattle.inc_model.proofs.steps.Polls.{times_out_absent, gate_completes}
+use Rattle.inc_model.proofs.steps.Paths.{hands_out_there, names_absent}
+use Rattle.inc_model.proofs.runs.Worlds.{keeps_acknowledged, acknowledged_there}
+use Rattle.inc_model.proofs.runs.Sources.{digests_come}
 use Rattle.inc_model.proofs.laws.worlds_keep.Goals as goal
 
 pub returns-clause-acknowledged : goal.returns-clause-acknowledged

@@ -1,5 +1,4 @@
 use Rattle.std.proofs.Common.{arith, ◌∙◌, ap, ◌+◌}
-use Rattle.inc_pending.specs.Polling.{marked}
 use Rattle.inc_pending.proofs.ReadsLemmas.{marked_more, count_more, bool_byte-le}
 use Rattle.inc_pending.proofs.reads.mark_reads.Goals as goal
 

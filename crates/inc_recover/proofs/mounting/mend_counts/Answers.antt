@@ -1,8 +1,12 @@
-use Rattle.inc_recover.proofs.MountLemmas.{none_mends, some_mends}
+use Rattle.inc_recover.proofs.MountLemmas.{none_mends, not_needed, some_mends}
 use Rattle.inc_recover.proofs.mounting.mend_counts.Goals as goal
 
 pub returns-in-None-clause-mends : goal.returns-in-None-clause-mends
 returns-in-None-clause-mends g c = none_mends c.args.opened.now _ (c.count_blocks.ensures.none c.in-None.is)
+
+pub returns-in-Some-clause-unwritten : goal.returns-in-Some-clause-unwritten
+returns-in-Some-clause-unwritten g c right =
+    absurd (not_needed c.args.opened.now c.in-Some.status right (rw c.count_blocks.ensures.value at c.in-Some.ensures.some) c.in-Some.ensures.needed)
 
 pub returns-in-Some-clause-mends : goal.returns-in-Some-clause-mends
 returns-in-Some-clause-mends g c =

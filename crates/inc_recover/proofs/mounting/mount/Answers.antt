@@ -28,3 +28,4 @@ pub returns-clause-mounts : goal.returns-clause-mounts
 returns-clause-mounts g c =
     mounted _ _ _ _ _ c.mend_counts.new.opened c.in_ok-opened.opened (g.met.D.Disk.sound c.args.disk.now) c.in_ok-sync.ensures.synced (ap g.D.Disk.states c.in_ok-opened.ensures.kept)
     (g.met.D.Disk.reads_now (g.D.Backing.kept c.sync.new.self)) c.in_ok-opened.ensures.answer c.in_ok-mend_counts.ensures.value c.in_ok-mend_counts.ensures.mends
+    (λ right. ap g.D.Disk.states (c.in_ok-mend_counts.ensures.unwritten right))

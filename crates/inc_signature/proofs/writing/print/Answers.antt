@@ -6,8 +6,8 @@ use Rattle.inc_signature.proofs.writing.print.Goals as goal
 pub returns-clause-value : goal.returns-clause-value
 returns-clause-value c =
     c.from_vec.ensures.value
-    ∙ blob_appended c.args.s.now.root c.as_slice-signing.result.now c.new-blob.result.items c.push_u32.new.blob.items c.push_u32-2.new.blob.items c.push_info.new.blob.items c.push_u32-3.new.blob.items _ c.push_info.ensures.sized
-    c.new-blob.ensures.items c.in_ok-push_u32.ensures.value c.in_ok-push_u32-2.ensures.value c.in_ok-push_info.ensures.value c.in_ok-push_u32-3.ensures.value c.in_ok-extend_from_slice.ensures.items
+    ∙ blob_appended c.args.s.now.root c.as_slice-signing.result.now c.new-blob.result.items c.push_u32.new.bytes.items c.push_u32-2.new.bytes.items c.push_info.new.blob.items c.push_u32-3.new.bytes.items _ c.push_info.ensures.sized
+    c.new-blob.ensures.items c.in_ok-push_u32.ensures.ok c.in_ok-push_u32-2.ensures.ok c.in_ok-push_info.ensures.value c.in_ok-push_u32-3.ensures.ok c.in_ok-extend_from_slice.ensures.items
     ∙ ap (λ signing. printed c.args.s.now.root signing) c.as_slice-signing.ensures.value
 
 pub returns-clause-read_back : goal.returns-clause-read_back

@@ -1,5 +1,5 @@
 use Rattle.std.proofs.Common.{◌≡◌, length}
-use Rattle.inc_layout.specs.Fixed.{are_apart}
+use Rattle.inc_entry.specs.Spans.{are_apart}
 use Rattle.inc_layout.proofs.fixed.judging.are_apart.Given as goal
 
 abbrev pub invariant-loop-rest : goal.invariant-loop-rest

@@ -4,4 +4,4 @@ use Rattle.inc_model.specs.Polling.{absent_hash, absent_from, levels_over}
 use Rattle.inc_model.proofs.file_core.FileCore.absent_hash.Given as goal
 
 abbrev pub invariant-loop-level : goal.invariant-loop-level
-invariant-loop-level l = absent_hash l.self.n l.self.map l.block ≡ absent_from l.self.n l.self.map l.block (levels_over l.self.n - l.level) l.level
+invariant-loop-level l = absent_hash l.self.n l.self.m l.self.map l.block ≡ absent_from l.self.n l.self.m l.self.map l.block (levels_over l.self.n l.self.m - l.level) l.level

@@ -1,5 +1,5 @@
 use Rattle.std.proofs.Common.{rules}
-use Rattle.inc_model.proofs.Replying.{handed_within}
+use Rattle.inc_model.proofs.executed.Replies.{handed_within}
 use Rattle.inc_model.proofs.file_core.FileCore.poll_reply.Goals as goal
 
 pub hand-requires-clause-here : goal.hand-requires-clause-here

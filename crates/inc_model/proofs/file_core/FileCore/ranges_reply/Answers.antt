@@ -1,6 +1,6 @@
 use Rattle.std.proofs.Common.{◌≡◌, ◌+◌, Err, ap, rules}
 use Rattle.inc_model.specs.Table.{presence}
-use Rattle.inc_model.proofs.Replying.{ranges_bad, ranges_filled}
+use Rattle.inc_model.proofs.executed.Replies.{ranges_bad, ranges_filled}
 use Rattle.inc_model.proofs.file_core.FileCore.ranges_reply.Goals as goal
 
 pub returns-in-Ok : goal.returns-in-Ok

@@ -1,4 +1,4 @@
-use Rattle.inc_model.proofs.Purity.{start_pure}
+use Rattle.inc_model.proofs.executed.Pure.{start_pure}
 use Rattle.inc_model.proofs.pure_file.PureFile.new.Goals as goal
 
 pub invariant_of-result : goal.invariant_of-result

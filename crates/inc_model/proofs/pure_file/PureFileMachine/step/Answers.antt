@@ -2,9 +2,9 @@ use Rattle.std.proofs.Common.{◌≡◌, ◌++◌, [], ◌∷◌, Some, length, 
 use Rattle.inc_model.specs.Table.{reply_of}
 use Rattle.inc_model.specs.Changes.{change}
 use Rattle.inc_model.specs.Step.{HasRoom, IsKept}
-use Rattle.inc_model.specs.Pure.{Replies}
+use Rattle.inc_model.specs.PureStep.{Replies}
 use Rattle.inc_model.specs.PureState.{Pure, first_of}
-use Rattle.inc_model.proofs.Purity.{own_allowed, pure_more, pure_replies}
+use Rattle.inc_model.proofs.executed.Pure.{own_allowed, pure_more, pure_replies}
 use Rattle.inc_model.proofs.pure_file.PureFileMachine.step.Goals as goal
 
 pub invariant_of-self-2 : goal.invariant_of-self-2

@@ -1,8 +1,8 @@
 use Rattle.std.proofs.Common.{◌≡◌, ◌+◌, ◌∙◌, sym, subst, rules, arith}
 use Rattle.inc_model.specs.declared.file_state.FileState.{FileState}
-use Rattle.inc_model.specs.Held.{IsHeld}
+use Rattle.inc_model.specs.CoreFacts.{IsHeld}
 use Rattle.inc_model.specs.Runs.{RunsTo, fresh_state, all_entries}
-use Rattle.inc_model.proofs.Rounds.{RanRounds, rounds_none, rounds_stop, rounds_more, rounds_end, runs_world}
+use Rattle.inc_model.proofs.runs.Rounds.{RanRounds, rounds_none, rounds_stop, rounds_more, rounds_end, runs_world, runs_end}
 use Rattle.inc_model.proofs.world.World.run.Goals as goal
 
 pub loop-round-init : goal.loop-round-init
@@ -18,6 +18,9 @@ returns-then-taken-entries-clause-runs c =
 pub returns-then-taken-entries-clause-world : goal.returns-then-taken-entries-clause-world
 returns-then-taken-entries-clause-world c = runs_world fresh_state (all_entries c.args.rounds.now) (c.loop-round.done + c.in_ok-taken.taken) c.into_state.result (returns-then-taken-entries-clause-runs c)
 
+pub returns-then-taken-entries-clause-end : goal.returns-then-taken-entries-clause-end
+returns-then-taken-entries-clause-end c = runs_end fresh_state (all_entries c.args.rounds.now) (c.loop-round.done + c.in_ok-taken.taken) c.into_state.result (returns-then-taken-entries-clause-runs c)
+
 pub loop-round-preserved : goal.loop-round-preserved
 loop-round-preserved c =
     let runs : RunsTo c.loop-round.done c.loop-round.core c.round-item.result.entries c.in_ok-taken.taken c.run_entries.new.core = search rules in
@@ -26,3 +29,6 @@ loop-round-preserved c =
 
 pub returns-clause-world : goal.returns-clause-world
 returns-clause-world c = runs_world fresh_state (all_entries c.args.rounds.now) c.loop-round.done c.into_state-2.result (subst (λ (s : FileState). RunsTo 0 fresh_state (all_entries c.args.rounds.now) c.loop-round.done s) (sym c.into_state-2.ensures.value) (rounds_end c.args.rounds.now c.loop-round.round-index c.loop-round.done c.loop-round.core (omega arith) c.loop-round.invariant))
+
+pub returns-clause-end : goal.returns-clause-end
+returns-clause-end c = runs_end fresh_state (all_entries c.args.rounds.now) c.loop-round.done c.into_state-2.result (subst (λ (s : FileState). RunsTo 0 fresh_state (all_entries c.args.rounds.now) c.loop-round.done s) (sym c.into_state-2.ensures.value) (rounds_end c.args.rounds.now c.loop-round.round-index c.loop-round.done c.loop-round.core (omega arith) c.loop-round.invariant))

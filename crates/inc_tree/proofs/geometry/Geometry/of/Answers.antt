@@ -1,5 +1,5 @@
 use Rattle.std.proofs.Common.{◌≡◌, arith}
-use Rattle.inc_tree.specs.Geometry.{data_blocks, blocks_above}
+use Rattle.inc_tree.specs.Geometry.{blocks_above}
 use Rattle.inc_tree.proofs.LevelLemmas.{levels_step, levels_found}
 use Rattle.inc_tree.proofs.geometry.Geometry.of.Goals as goal
 
@@ -10,5 +10,5 @@ loop-below-preserved c =
 
 pub invariant_of-result : goal.invariant_of-result
 invariant_of-result c =
-    let blocks : c.div_ceil-blocks.result ≡ data_blocks c.args.size = omega arith in
-    rw blocks (levels_found c.args.size _ _ _ (rw blocks at c.loop-below.invariant) c.loop-below-test.false (omega arith))
+    let blocks = c.in_ok-blocks.ensures.value in
+    rw blocks (levels_found c.args.size _ _ _ (rw blocks at c.loop-below.invariant) c.loop-below-test.false c.in_ok-blocks.ensures.fits)

@@ -1,0 +1,10 @@
+use Rattle.inc_layout.specs.StaticRead.{static_reading}
+use Rattle.inc_cmd.specs.Commands.Read.{shown}
+use Rattle.inc_cmd.proofs.ReadLemmas.{passed_sig, refused_block}
+use Rattle.inc_cmd.proofs.commands.read.read_laid_out.Goals as goal
+
+pub returns-in-Err-clause-answer : goal.returns-in-Err-clause-answer
+returns-in-Err-clause-answer g c =
+    passed_sig _ c.args.name.now _ (λ bytes. shown c.args.index (static_reading bytes c.args.layout.now c.args.index)) _ c.in-None.ensures.none
+    (refused_block _ c.args.index c.in-Err.error (λ bytes. static_reading bytes c.args.layout.now c.args.index) _ c.in-Err.ensures.answer
+    c.refuse_block.ensures.outcome c.refuse_block.ensures.not_shown)

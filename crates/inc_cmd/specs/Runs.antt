@@ -1,0 +1,176 @@
+-- What is promised of a run of the program beside its text, a row a command.
+use Rattle.std.specs.Prelude.{◌≡◌, ◌≢◌, ◌⊎◌, ℕ, ◌<◌, ◌≤◌, ◌++◌, Bool, true, false, not, if◌then◌else◌, List, [], drop, Option, Some, IfSome, IsSomeAnd, option_map, Result, Ok, Err}
+use Rattle.std.specs.FinMap.{get}
+use Rattle.inc_io.specs.Causes.{Rose}
+use Rattle.inc_io.specs.Contents.{Contents}
+use Rattle.inc_disk.specs.Log.{Log}
+use Rattle.inc_cmd.specs.Commands.{ShowsOf, VouchesOf, plain}
+use Rattle.inc_cmd.specs.Commands.Make.{AddsOnly, IsMade, LeavesNew, new_file}
+use Rattle.inc_cmd.specs.Endings.{Answer}
+use Rattle.inc_cmd.specs.Words.{Command, Make, Read, Check, Inspect, Misfit}
+use Rattle.inc_cmd.specs.declared.commands.FileCommand.TheVariants as file
+use Rattle.inc_cmd.specs.declared.outcome.Outcome.{Outcome}
+use Rattle.inc_cmd.specs.declared.stop.Stop.{Stop}
+use Rattle.inc_cmd.specs.declared.stop.Stop.TheVariants.{Fault, OutOfMemory}
+
+-- ---- counts of faults
+
+-- the count didn't rise, and doesn't stand at its end
+abbrev pub IsQuiet : ℕ → ℕ → Type 0
+IsQuiet before now = Rose before now → ⊥
+
+-- a count never falls, and where it grew a status tells it that stands before or at that of a fault
+pub record IsTold (before now status : ℕ) : Type 0 where
+  pub later : before ≤ now
+  pub told : before < now → (status ≡ 5) ⊎ (status ≡ 1) ⊎ (status ≡ 6)
+
+-- ---- the output
+
+-- a sink took this text and no more
+abbrev pub Appends : Option (List ℕ) → Option (List ℕ) → List ℕ → Type 0
+Appends before after text = after ≡ option_map (λ bytes. bytes ++ text) before
+
+-- a sink took some front of this text
+abbrev pub AppendsFront : Option (List ℕ) → Option (List ℕ) → List ℕ → Type 0
+AppendsFront before after text = (front : List ℕ) × (rest : List ℕ) × (front ++ rest ≡ text) × Appends before after front
+
+-- it took all of a text with P
+pub record Prints (before after : Option (List ℕ)) (P : List ℕ → Type 0) : Type 0 where
+  pub text : List ℕ
+  pub holds : P text
+  pub sent : Appends before after text
+
+-- status, text and what the shelf then tells are those of this answer
+pub record IsAnswered (answer : Answer) (status : ℕ) (before after : Option (List ℕ)) (files : Option Contents) : Type 0 where
+  pub status_is : status ≡ answer.status
+  pub text_is : Appends before after answer.text
+  pub after_is : files ≡ Some answer.after
+
+-- ---- the shelf's and the input's bytes, where they are told
+
+-- where both logs are told
+abbrev pub IfLogs : Option Log → Option Log → (Log → Log → Type 0) → Type 0
+IfLogs before after P = IfSome before (λ old. IfSome after (λ new. P old new))
+
+-- ---- the input
+
+-- a make of a signed file reads it, and no other command does
+abbrev pub reads_input : Command → Bool
+reads_input (Make name size id unsigned) = not unsigned
+reads_input (Read name index root unproved) = false
+reads_input (Check name root) = false
+reads_input (Inspect name) = false
+reads_input (Misfit position) = false
+
+-- what a command is given: nothing, where it reads nothing
+abbrev pub given_to : Command → Option (List ℕ) → Option (List ℕ)
+given_to command left = if reads_input command then left else Some []
+
+-- where the shelf tells its files, and the input what the command is given
+abbrev pub IfTold : Command → Option Contents → Option (List ℕ) → (Contents → List ℕ → Type 0) → Type 0
+IfTold command files left P = IfSome files (λ stored. IfSome (given_to command left) (λ given. P stored given))
+
+-- the run ends as the definition says
+abbrev pub EndsAsPlain : Command → Option Contents → Option (List ℕ) → ℕ → Option (List ℕ) → Option (List ℕ) → Option Contents → Type 0
+EndsAsPlain command files left status before after now = IfTold command files left (λ stored given. IsAnswered (plain command stored given) status before after now)
+
+-- a front of the definition's text was written
+abbrev pub PrintsFront : Command → Option Contents → Option (List ℕ) → Option (List ℕ) → Option (List ℕ) → Type 0
+PrintsFront command files left before after = IfTold command files left (λ stored given. AppendsFront before after (plain command stored given).text)
+
+-- at most so many bytes were taken
+abbrev pub TakesFront : ℕ → Option (List ℕ) → Option (List ℕ) → Type 0
+TakesFront most before after = (count : ℕ) × (count ≤ most) × (after ≡ option_map (drop count) before)
+
+-- what is left of it, whether it has ended, and its count
+pub record KeepsInput (left_before left_now : Option (List ℕ)) (ended_before ended_now : Bool) (before now : ℕ) : Type 0 where
+  pub left : left_now ≡ left_before
+  pub end : ended_now ≡ ended_before
+  pub count : now ≡ before
+
+-- ---- statuses
+
+abbrev pub status_of : Result Outcome Stop → ℕ
+status_of (Ok outcome) = outcome.status.0
+status_of (Err Fault) = 5
+status_of (Err OutOfMemory) = 6
+
+-- status 1 comes exactly where the words fit no command, but for want of memory
+abbrev pub WordsAreTold : Command → ℕ → Type 0
+WordsAreTold (Misfit position) status = (status ≡ 1) ⊎ (status ≡ 6)
+WordsAreTold (Make name size id unsigned) status = status ≢ 1
+WordsAreTold (Read name index root unproved) status = status ≢ 1
+WordsAreTold (Check name root) status = status ≢ 1
+WordsAreTold (Inspect name) status = status ≢ 1
+
+-- the shelf failed, or the input of a command that reads it
+abbrev pub HasFailed : Command → ℕ → ℕ → ℕ → ℕ → Type 0
+HasFailed command before now input_before input_now = Rose before now ⊎ ((reads_input command ≡ true) × Rose input_before input_now)
+
+-- a call on shelf and input: a fault comes only where a count rose, and else both counts stay
+pub record HasCauseIn {T : Type 0} (command : Command) (before now input_before input_now : ℕ) (result : Result T Stop) : Type 0 where
+  pub later : before ≤ now
+  pub input_later : input_before ≤ input_now
+  pub failed : result ≡ Err Fault → HasFailed command before now input_before input_now
+  pub kept : result ≢ Err Fault → now ≡ before
+  pub input_kept : result ≢ Err Fault → input_now ≡ input_before
+
+-- the same of a call that does one command
+pub record HasEitherCause {T : Type 0} (before now input_before input_now : ℕ) (result : Result T Stop) : Type 0 where
+  pub later : before ≤ now
+  pub input_later : input_before ≤ input_now
+  pub failed : result ≡ Err Fault → Rose before now ⊎ Rose input_before input_now
+  pub kept : result ≢ Err Fault → now ≡ before
+  pub input_kept : result ≢ Err Fault → input_now ≡ input_before
+
+-- ---- the shelf
+
+-- a command that only reads leaves it as it was
+abbrev pub KeepsShelf : {K : Type 0} → Command → K → K → Type 0
+KeepsShelf (Make name size id unsigned) before now = Unit {0}
+KeepsShelf (Read name index root unproved) before now = now ≡ before
+KeepsShelf (Check name root) before now = now ≡ before
+KeepsShelf (Inspect name) before now = now ≡ before
+KeepsShelf (Misfit position) before now = now ≡ before
+
+-- which files a run may change
+abbrev pub ChangesOnly : Command → Log → Log → Type 0
+ChangesOnly (Make name size id unsigned) before after = AddsOnly name before after
+ChangesOnly (Read name index root unproved) before after = after ≡ before
+ChangesOnly (Check name root) before after = after ≡ before
+ChangesOnly (Inspect name) before after = after ≡ before
+ChangesOnly (Misfit position) before after = after ≡ before
+
+-- what a crash at any moment of the run leaves
+abbrev pub LeavesFiles : Command → List ℕ → Log → Log → Type 0
+LeavesFiles (Make name size id unsigned) given before after = LeavesNew name (new_file size id unsigned given) before after
+LeavesFiles (Read name index root unproved) given before after = after ≡ before
+LeavesFiles (Check name root) given before after = after ≡ before
+LeavesFiles (Inspect name) given before after = after ≡ before
+LeavesFiles (Misfit position) given before after = after ≡ before
+
+-- what stands once status 0 is told
+abbrev pub Made : Command → List ℕ → Log → Type 0
+Made (Make name size id unsigned) given after = IsMade name (new_file size id unsigned given) after
+Made (Read name index root unproved) given after = Unit {0}
+Made (Check name root) given after = Unit {0}
+Made (Inspect name) given after = Unit {0}
+Made (Misfit position) given after = ⊥
+
+-- ---- what status 0 means
+
+-- over the files: a make and an inspection show no block
+abbrev pub Shows : Command → Contents → List ℕ → Type 0
+Shows (Make name size id unsigned) files text = Unit {0}
+Shows (Read name index root unproved) files text = IsSomeAnd (get files name) (λ bytes. ShowsOf (file.Read index root unproved) bytes text)
+Shows (Check name root) files text = IsSomeAnd (get files name) (λ bytes. ShowsOf (file.Check root) bytes text)
+Shows (Inspect name) files text = IsSomeAnd (get files name) (λ bytes. ShowsOf file.Inspect bytes text)
+Shows (Misfit position) files text = ⊥
+
+-- whatever the shelf tells
+abbrev pub Vouches : Command → List ℕ → Type 0
+Vouches (Make name size id unsigned) text = Unit {0}
+Vouches (Read name index root unproved) text = VouchesOf (file.Read index root unproved) text
+Vouches (Check name root) text = VouchesOf (file.Check root) text
+Vouches (Inspect name) text = VouchesOf file.Inspect text
+Vouches (Misfit position) text = ⊥

@@ -1,0 +1,153 @@
+// All data blocks of a file, one after another.
+ghost use Rattle.std.specs.Prelude.{◌≡◌, ◌≢◌, ◌++◌, ◌<◌, ◌≤◌, if◌then◌else◌, false, IfSome, IfOk, IfErr, IsSome};
+ghost use Rattle.inc_io.specs.Causes.{HasCauseAt};
+ghost use Rattle.inc_layout.specs.Backing.{IsBackingFile, IsLaidOut, layout_in};
+ghost use Rattle.inc_layout.specs.Checking.{AreKept};
+ghost use Rattle.inc_layout.specs.Opening.{IsSoundLayout, IsSoundOpened};
+ghost use Rattle.inc_cmd.specs.Commands.Check.{AreAllProved, IsCheckOf, block_count, check_ending, checked, checked_in, is_good, line_in};
+ghost use Rattle.inc_cmd.specs.Commands.Read.{sig_refusal};
+ghost use Rattle.inc_cmd.specs.Endings.{EndsAs, unless_refused};
+ghost use Rattle.inc_cmd.specs.declared.stop.Stop.TheVariants.{Fault as stop_fault, OutOfMemory as stop_out_of_memory};
+
+use super::read::sig_refusal;
+use crate::Status;
+use crate::outcome::{Outcome, refuse, refuse_block, refuse_layout};
+use crate::stop::Stop;
+use crate::texts::lines::checked_line;
+use inc_io::{Backing, Name};
+use inc_layout::{KeptPath, Layout, Opened, check_opened, open_digests, open_shape};
+use inc_tree::Digest32;
+use std::alloc::Global;
+
+/// What a check of a file found.
+#[derive(Drop)]
+pub struct Checked {
+    /// A line for each data block that isn't good, in rising order.
+    pub lines: Vec<u8>,
+    pub good: u32,
+    pub count: u32,
+}
+
+/// Checks each data block of a file. It reads every stored block, once the file isn't refused by its layout or its signature.
+pub fn check_file<B: Backing>(
+    alloc: Global,
+    name: &Name,
+    file: &mut B,
+    root: Option<Digest32>,
+) -> Result<Outcome, Stop>
+    ensures answer { IfSome (B.reads (B.kept file.old)) (λ bytes. IfOk result (EndsAs (check_ending name.now root bytes))) }
+    ensures shows { IfSome (B.reads (B.kept file.old)) (λ bytes. IfOk result (λ outcome. outcome.status.0 ≡ 0 → AreAllProved bytes root)) }
+    ensures words { IfOk result (λ outcome. outcome.status.0 ≢ 1) }
+    ensures statuses { IfOk result (λ outcome. outcome.status.0 < 5) }
+    ensures kept { B.kept file.new ≡ B.kept file.old }
+    ensures cause { HasCauseAt stop_fault (B.faults file.old) (B.faults file.new) result }
+{
+    match open_shape(alloc, file) {
+        Ok(layout) => check_laid(alloc, name, file, layout, root),
+        Err(fault) => refuse_layout(alloc, name, fault),
+    }
+}
+
+/// Checks the blocks of a file whose layout stands. For its signature it is refused before a block is read.
+fn check_laid<B: Backing>(
+    alloc: Global,
+    name: &Name,
+    file: &mut B,
+    layout: Layout,
+    root: Option<Digest32>,
+) -> Result<Outcome, Stop>
+    requires sound { IsSoundLayout layout }
+    requires stands { IfSome (B.reads (B.kept file.old)) (λ bytes. IsLaidOut bytes layout) }
+    ensures answer { IfSome (B.reads (B.kept file.old)) (λ bytes. IfOk result (EndsAs (unless_refused name.now (sig_refusal false root layout.sig) (checked_in bytes layout)))) }
+    ensures shows { IfSome (B.reads (B.kept file.old)) (λ bytes. IfOk result (λ outcome. outcome.status.0 ≡ 0 → AreAllProved bytes root)) }
+    ensures words { IfOk result (λ outcome. outcome.status.0 ≢ 1) }
+    ensures statuses { IfOk result (λ outcome. outcome.status.0 < 5) }
+    ensures kept { B.kept file.new ≡ B.kept file.old }
+    ensures cause { HasCauseAt stop_fault (B.faults file.old) (B.faults file.new) result }
+{
+    if let Some(word) = sig_refusal(&layout.sig, root, false) {
+        return refuse(alloc, name, word);
+    }
+    match open_digests(alloc, file, layout) {
+        Ok(opened) => check_digests(alloc, file, &opened),
+        Err(fault) => refuse_layout(alloc, name, fault),
+    }
+}
+
+/// Checks the blocks of an opened file that is signed.
+fn check_digests<B: Backing>(alloc: Global, file: &mut B, opened: &Opened) -> Result<Outcome, Stop>
+    requires sound { IsSoundOpened opened.now }
+    requires signed { IsSome opened.now.sig }
+    requires stands { IfSome (B.reads (B.kept file.old)) (λ bytes. IsBackingFile bytes opened.now) }
+    ensures answer { IfSome (B.reads (B.kept file.old)) (λ bytes. IfOk result (EndsAs (checked_in bytes (layout_in opened.now)))) }
+    ensures words { IfOk result (λ outcome. outcome.status.0 ≢ 1) }
+    ensures statuses { IfOk result (λ outcome. outcome.status.0 < 5) }
+    ensures kept { B.kept file.new ≡ B.kept file.old }
+    ensures cause { HasCauseAt stop_fault (B.faults file.old) (B.faults file.new) result }
+{
+    let found = check_blocks(alloc, file, opened)?;
+    show_checked(alloc, found)
+}
+
+fn show_checked(alloc: Global, found: Checked) -> Result<Outcome, Stop>
+    ensures outcome { IfOk result (EndsAs (checked found.count found.lines.items found.good)) }
+    ensures memory { IfErr result (λ stop. stop ≡ stop_out_of_memory) }
+{
+    let Checked { lines, good, count } = found;
+    let mut text = lines;
+    text.extend_from_slice(checked_line(alloc, good, count)?.as_slice())?;
+    let status = if good == count {
+        Status::DONE
+    } else {
+        Status::NOT_SHOWN
+    };
+    Ok(Outcome { status, text })
+}
+
+fn check_blocks<B: Backing>(alloc: Global, file: &mut B, opened: &Opened) -> Result<Checked, Stop>
+    requires sound { IsSoundOpened opened.now }
+    requires signed { IsSome opened.now.sig }
+    requires stands { IfSome (B.reads (B.kept file.old)) (λ bytes. IsBackingFile bytes opened.now) }
+    ensures answer { IfSome (B.reads (B.kept file.old)) (λ bytes. IfOk result (IsCheckOf bytes (layout_in opened.now) (block_count (layout_in opened.now)))) }
+    ensures kept { B.kept file.new ≡ B.kept file.old }
+    ensures cause { HasCauseAt stop_fault (B.faults file.old) (B.faults file.new) result }
+{
+    let count = opened.areas.geometry.data_blocks();
+    let mut path = KeptPath::new(alloc);
+    let mut lines = Vec::new(alloc);
+    let mut good = 0;
+    for index in 0..count {
+        good += check_block(alloc, file, opened, &mut path, index, &mut lines)?;
+    }
+    Ok(Checked { lines, good, count })
+}
+
+/// Checks a block, and adds its line where it isn't good. It answers how many good blocks that is, 1 or 0.
+fn check_block<B: Backing>(
+    alloc: Global,
+    file: &mut B,
+    opened: &Opened,
+    path: &mut KeptPath,
+    index: u32,
+    lines: &mut Vec<u8>,
+) -> Result<u32, Stop>
+    requires sound { IsSoundOpened opened.now }
+    requires signed { IsSome opened.now.sig }
+    requires stands { IfSome (B.reads (B.kept file.old)) (λ bytes. IsBackingFile bytes opened.now) }
+    requires before { IfSome (B.reads (B.kept file.old)) (λ bytes. AreKept bytes opened.now.areas path.old) }
+    ensures good { IfSome (B.reads (B.kept file.old)) (λ bytes. IfOk result (λ good. good ≡ (if is_good bytes (layout_in opened.now) index then 1 else 0))) }
+    ensures one { IfOk result (λ good. good ≤ 1) }
+    ensures line { IfSome (B.reads (B.kept file.old)) (λ bytes. IfOk result (λ good. lines.new.items ≡ lines.old.items ++ line_in bytes (layout_in opened.now) index)) }
+    ensures after { IfSome (B.reads (B.kept file.old)) (λ bytes. AreKept bytes opened.now.areas path.new) }
+    ensures kept { B.kept file.new ≡ B.kept file.old }
+    ensures cause { HasCauseAt stop_fault (B.faults file.old) (B.faults file.new) result }
+{
+    match check_opened(alloc, file, opened, path, index) {
+        Ok(()) => Ok(1),
+        Err(error) => {
+            let outcome = refuse_block(alloc, index, error)?;
+            lines.extend_from_slice(outcome.text.as_slice())?;
+            Ok(0)
+        }
+    }
+}

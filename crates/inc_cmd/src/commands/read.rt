@@ -1,0 +1,151 @@
+// A data block of a file, as it is shown.
+ghost use Rattle.std.specs.Prelude.{◌≡◌, ◌≢◌, ◌<◌, true, false, IfSome, IfNone, IfOk, IsSome, None, Some, Err};
+ghost use Rattle.inc_io.specs.Causes.{HasCauseAt};
+ghost use Rattle.inc_tree.specs.Shown.{shown_content};
+ghost use Rattle.inc_tree.specs.Verified.{content_of};
+ghost use Rattle.inc_layout.specs.Backing.{IsLaidOut};
+ghost use Rattle.inc_layout.specs.Opening.{IsSoundLayout};
+ghost use Rattle.inc_cmd.specs.Commands.Read.{IsMarked, IsProvedText, ProvesText, ShowsBlock, VouchesRead, read_ending, root_refusal, shown_in, sig_refusal, unsigned_refusal};
+ghost use Rattle.inc_cmd.specs.Endings.{EndsAs};
+ghost use Rattle.inc_cmd.specs.declared.stop.Stop.TheVariants.{Fault as stop_fault};
+
+use crate::outcome::{Outcome, refuse, refuse_block, refuse_layout};
+use crate::stop::Stop;
+use crate::texts::refusals::{root_differs, unsigned};
+use crate::{OutOfMemory, Status};
+use inc_io::{Backing, Name};
+use inc_layout::{Layout, open_shape, show_laid};
+use inc_signature::SigInfo;
+use inc_tree::{Digest32, Shown, Verified};
+use std::alloc::Global;
+
+/// Reads a block of a file. Of the file it reads its layout, the block and the hash blocks on the block's path.
+pub fn read_block<B: Backing>(
+    alloc: Global,
+    name: &Name,
+    file: &mut B,
+    index: u32,
+    root: Option<Digest32>,
+    unproved: bool,
+) -> Result<Outcome, Stop>
+    ensures answer { IfSome (B.reads (B.kept file.old)) (λ bytes. IfOk result (EndsAs (read_ending name.now index root unproved bytes))) }
+    ensures shows { IfSome (B.reads (B.kept file.old)) (λ bytes. IfOk result (λ outcome. outcome.status.0 ≡ 0 →
+        ShowsBlock bytes index root unproved outcome.text.items)) }
+    ensures vouched { IfOk result (λ outcome. outcome.status.0 ≡ 0 → VouchesRead index root unproved outcome.text.items) }
+    ensures words { IfOk result (λ outcome. outcome.status.0 ≢ 1) }
+    ensures statuses { IfOk result (λ outcome. outcome.status.0 < 5) }
+    ensures kept { B.kept file.new ≡ B.kept file.old }
+    ensures cause { HasCauseAt stop_fault (B.faults file.old) (B.faults file.new) result }
+{
+    match open_shape(alloc, file) {
+        Ok(layout) => read_laid_out(alloc, name, file, &layout, index, root, unproved),
+        Err(fault) => refuse_layout(alloc, name, fault),
+    }
+}
+
+/// Reads a block of a file whose layout stands.
+fn read_laid_out<B: Backing>(
+    alloc: Global,
+    name: &Name,
+    file: &mut B,
+    layout: &Layout,
+    index: u32,
+    root: Option<Digest32>,
+    unproved: bool,
+) -> Result<Outcome, Stop>
+    requires sound { IsSoundLayout layout.now }
+    requires stands { IfSome (B.reads (B.kept file.old)) (λ bytes. IsLaidOut bytes layout.now) }
+    ensures answer { IfSome (B.reads (B.kept file.old)) (λ bytes. IfOk result (EndsAs (shown_in name.now index root unproved bytes layout.now))) }
+    ensures shows { IfSome (B.reads (B.kept file.old)) (λ bytes. IfOk result (λ outcome. outcome.status.0 ≡ 0 →
+        ShowsBlock bytes index root unproved outcome.text.items)) }
+    ensures vouched { IfOk result (λ outcome. outcome.status.0 ≡ 0 → VouchesRead index root unproved outcome.text.items) }
+    ensures words { IfOk result (λ outcome. outcome.status.0 ≢ 1) }
+    ensures statuses { IfOk result (λ outcome. outcome.status.0 < 5) }
+    ensures kept { B.kept file.new ≡ B.kept file.old }
+    ensures cause { HasCauseAt stop_fault (B.faults file.old) (B.faults file.new) result }
+{
+    match sig_refusal(&layout.sig, root, unproved) {
+        Some(word) => refuse(alloc, name, word),
+        None => match show_laid(alloc, file, layout, index) {
+            Ok(block) => show(alloc, &block),
+            Err(error) => refuse_block(alloc, index, error),
+        },
+    }
+}
+
+/// The word by which a file is refused for its signature: it names another root than the one given, or there is none and the block isn't
+/// taken unproved.
+pub fn sig_refusal(
+    sig: &Option<SigInfo>,
+    root: Option<Digest32>,
+    unproved: bool,
+) -> Option<&'static [u8]>
+    ensures word { IfSome result (λ word. sig_refusal unproved root sig.now ≡ Some word.now) }
+    ensures none { IfNone result (sig_refusal unproved root sig.now ≡ None) }
+    ensures marked { IfNone result (IsMarked sig.now root unproved) }
+    ensures signed { IfNone result (unproved ≡ false → IsSome sig.now) }
+{
+    match sig {
+        Some(sig) => root_refusal(sig, root),
+        None => unsigned_refusal(root, unproved),
+    }
+}
+
+fn root_refusal(sig: &SigInfo, root: Option<Digest32>) -> Option<&'static [u8]>
+    ensures word { IfSome result (λ word. root_refusal root sig.now ≡ Some word.now) }
+    ensures none { IfNone result (root_refusal root sig.now ≡ None) }
+    ensures given { IfNone result (IfSome root (λ given. sig.now.root ≡ given)) }
+{
+    if let Some(root) = root {
+        if sig.root != root {
+            return Some(root_differs());
+        }
+    }
+    None
+}
+
+fn unsigned_refusal(root: Option<Digest32>, unproved: bool) -> Option<&'static [u8]>
+    ensures word { IfSome result (λ word. unsigned_refusal unproved root ≡ Some word.now) }
+    ensures none { IfNone result (unsigned_refusal unproved root ≡ None) }
+    ensures marked { IfNone result (IsMarked None root unproved) }
+    ensures taken { IfNone result (unproved ≡ true) }
+{
+    match root {
+        Some(_) => Some(unsigned()),
+        None => { if unproved { None } else { Some(unsigned()) } }
+    }
+}
+
+/// The outcome of a block that is shown.
+fn show(alloc: Global, block: &Shown) -> Result<Outcome, Stop>
+    ensures done { IfOk result (λ outcome. outcome.status.0 ≡ 0) }
+    ensures text { IfOk result (λ outcome. outcome.text.items ≡ shown_content block.now) }
+    ensures proved { IfOk result (λ outcome. ProvesText block.now outcome.text.items) }
+    ensures memory { result ≢ Err stop_fault }
+{
+    Ok(Outcome {
+        status: Status::DONE,
+        text: text_of(alloc, block)?,
+    })
+}
+
+fn text_of(alloc: Global, block: &Shown) -> Result<Vec<u8>, OutOfMemory>
+    ensures content { IfOk result (λ text. text.items ≡ shown_content block.now) }
+    ensures proved { IfOk result (λ text. ProvesText block.now text.items) }
+{
+    match block {
+        Shown::Proved(block) => proved_text(alloc, block),
+        Shown::Unproved(block) => block.content().to_vec(alloc),
+    }
+}
+
+/// The content of a checked block. Its bytes and those of its path are whole blocks.
+fn proved_text(alloc: Global, block: &Verified) -> Result<Vec<u8>, OutOfMemory>
+    ensures content { IfOk result (λ text. text.items ≡ content_of block.now) }
+    ensures proved { IfOk result (λ text. IsProvedText block.now.root block.now.geometry block.now.index text.items) }
+{
+    let _bytes = block.bytes.as_slice();
+    let _hashes = block.path.as_slice();
+    let text = block.content().to_vec(alloc)?;
+    Ok(text)
+}

@@ -1,0 +1,3 @@
+// The input that a command takes and the output that it writes.
+pub mod input;
+pub mod output;

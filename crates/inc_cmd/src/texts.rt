@@ -1,0 +1,4 @@
+// What commands print.
+pub mod lines;
+pub mod reasons;
+pub mod refusals;

@@ -1,5 +1,0 @@
-use Rattle.inc_layout.proofs.Preserving.{kept_preserves}
-use Rattle.inc_fill.proofs.laws.kept_images_preserve.Goals as goal
-
-pub returns : goal.returns
-returns c = record { preserves = kept_preserves }

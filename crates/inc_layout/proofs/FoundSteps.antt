@@ -1,0 +1,87 @@
+-- The digests of stored blocks, found one after the other or four at once, over a content that may not be told.
+use Rattle.std.proofs.Common.{◌≡◌, ℕ, suc, ◌+◌, ◌-◌, ◌<◌, ◌≤◌, Bool, true, false, List, [], ◌∷◌, ◌++◌, length, take, drop, get_or, replicate, Option, Some, None, Result, Ok, refl, sym, ap, ◌∙◌, subst, arith, length-append, length-drop}
+use Rattle.std.specs.Prelude.{IfSome, is_some}
+use Rattle.std.proofs.lemmas.List.{length-take-le, take_at}
+use Rattle.inc_io.specs.Causes.{HasCauseAt}
+use Rattle.sha2.specs.Sha256.{sha256}
+use Rattle.inc_tree.specs.Geometry.{block_len}
+use Rattle.inc_tree.specs.Path.{block_digest}
+use Rattle.inc_entry.specs.Entry.{Places, entries}
+use Rattle.inc_entry.specs.Stored.{class_at, digest_of, is_open_class, part, stored_digest}
+use Rattle.inc_entry.specs.declared.classes.Class.{Class}
+use Rattle.inc_entry.specs.declared.classes.Class.TheVariants.{Damaged, OpenAt}
+use Rattle.inc_entry.proofs.BlockLemmas.{open_inside}
+use Rattle.inc_layout.specs.Found.{HasFound, digest_if}
+use Rattle.inc_layout.specs.Listed.{listed}
+use Rattle.inc_layout.proofs.EntryLemmas.{digest_given}
+use Rattle.inc_layout.proofs.LoopSteps.{digests_more, digests_start, there_more}
+
+-- ---- one block in its room
+
+padded_room : (block behind filled room : List ℕ) (count : ℕ) → length block ≡ count → filled ≡ block ++ behind
+    → room ≡ take count filled ++ replicate (4096 - count) 0 → sha256 room ≡ block_digest block
+padded_room block behind filled room count sized read cleared =
+    let front : take count filled ≡ block = ap (λ (xs : List ℕ). take count xs) read ∙ take_at block behind count sized in
+    ap sha256 (cleared ∙ (λ i. front i ++ replicate (4096 - sym sized i) 0))
+
+-- an open block was read into its room, and what stood behind it was cleared
+pub open_read : (told : Option (List ℕ)) (places : Places) (index place size count : ℕ) (class : Class) (before filled room : List ℕ) → class ≡ OpenAt place size
+    → count ≡ block_len places.shape index
+    → IfSome told (λ bytes. place + count ≤ length bytes → filled ≡ part count place bytes ++ drop count before)
+    → room ≡ take count filled ++ replicate (4096 - count) 0
+    → IfSome told (λ bytes. class ≡ class_at places bytes index → digest_if true room ≡ digest_of places bytes index class)
+open_read None places index place size count class before filled room is whole read cleared = tt
+open_read (Some bytes) places index place size count class before filled room is whole read cleared = λ own.
+    let within : place + block_len places.shape index ≤ length bytes = open_inside places bytes index place size (sym own ∙ is) in
+    let fits : place + count ≤ length bytes = omega arith in
+    let sized : length (part count place bytes) ≡ count = length-take-le count (drop place bytes) (omega (arith, length-drop place bytes)) in
+    digest_given (Some bytes) places index place size count class (part count place bytes) (sha256 room) is whole (λ _. refl)
+    (padded_room (part count place bytes) (drop count before) filled room count sized (read fits) cleared) own
+
+-- ---- one more digest
+
+pub found_none : (told : Option (List ℕ)) (places : Places) (classes : List Class) (digests : List (Option (List ℕ))) → digests ≡ [] → HasFound told places classes digests 0
+found_none told places classes digests none = record {
+  count = ap length none;
+  there = λ i lt. absurd (omega arith);
+  stored = digests_start told places classes digests none;
+}
+
+is_some-digest_if : (b : Bool) (room : List ℕ) → is_some (digest_if b room) ≡ b
+is_some-digest_if true room = refl
+is_some-digest_if false room = refl
+
+read_as : (told : Option (List ℕ)) (places : Places) (index : ℕ) (class : Class) (digest found : Option (List ℕ)) → digest ≡ found
+    → IfSome told (λ bytes. class ≡ class_at places bytes index → found ≡ digest_of places bytes index class)
+    → IfSome told (λ bytes. class ≡ class_at places bytes index → digest ≡ digest_of places bytes index class)
+read_as None places index class digest found same read = tt
+read_as (Some bytes) places index class digest found same read = λ own. same ∙ read own
+
+pub found_more : (told : Option (List ℕ)) (places : Places) (classes : List Class) (digests : List (Option (List ℕ))) (index next : ℕ) (class : Class) (b : Bool) (room : List ℕ)
+    (digest : Option (List ℕ)) → HasFound told places classes digests index → next ≡ index + 1 → ((d : Class) → class ≡ get_or classes index d) → index < entries places
+    → b ≡ is_open_class class → IfSome told (λ bytes. class ≡ class_at places bytes index → digest_if b room ≡ digest_of places bytes index class)
+    → digest ≡ digest_if b room → HasFound told places classes (digests ++ digest ∷ []) next
+found_more told places classes digests index next class b room digest found is_next is lt tells read same =
+    let up : suc index ≡ next = omega arith in
+    let there_is : is_some digest ≡ is_open_class class = ap is_some same ∙ (is_some-digest_if b room ∙ tells) in
+    record {
+      count = length-append digests (digest ∷ []) ∙ (let e = found.count in omega arith);
+      there = subst (λ (n : ℕ). (i : ℕ) → i < n → is_some (get_or (digests ++ digest ∷ []) i None) ≡ is_open_class (get_or classes i Damaged)) up
+          (there_more index class classes digests digest (is Damaged) found.count there_is found.there);
+      stored = subst (λ (n : ℕ). IfSome told (λ bytes. classes ≡ listed (class_at places bytes) (entries places) → digests ++ digest ∷ [] ≡ listed (stored_digest places bytes) n)) up
+          (digests_more told places index class classes digests digest (is class) lt (read_as told places index class digest (digest_if b room) same read) found.stored);
+    }
+
+pub found_at : (told : Option (List ℕ)) (places : Places) (classes : List Class) (digests : List (Option (List ℕ))) (index next : ℕ) → index ≡ next
+    → HasFound told places classes digests index → HasFound told places classes digests next
+found_at told places classes digests index next same found = subst (λ (n : ℕ). HasFound told places classes digests n) same found
+
+-- ---- causes
+
+-- a fault tells nothing of the digests
+pub nothing_found : (told : Option (List ℕ)) (P : List ℕ → Type 0) → IfSome told (λ bytes. P bytes → Unit {0})
+nothing_found None P = tt
+nothing_found (Some bytes) P = λ p. tt
+
+pub no_cause : {T E : Type 0} (fault : E) (before now : ℕ) (value : T) → now ≡ before → HasCauseAt fault before now (let answer : Result T E = Ok value in answer)
+no_cause fault before now value same = record { later = omega arith; failed = λ e. cc; kept = λ _. same }

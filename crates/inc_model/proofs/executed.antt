@@ -1,0 +1,3 @@
+-- The executed core does what the relation says.
+pub mod Pure
+pub mod Replies

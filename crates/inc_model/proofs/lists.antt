@@ -1,0 +1,10 @@
+-- Lists by rising keys, and what is found in them.
+pub mod Claims
+pub mod Finds
+pub mod Flight
+pub mod KeySlots
+pub mod Members
+pub mod Presence
+pub mod Rising
+pub mod RowSlots
+pub mod Sets

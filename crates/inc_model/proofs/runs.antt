@@ -1,0 +1,9 @@
+-- Histories, and runs with crashes.
+pub mod Histories
+pub mod Openings
+pub mod OtherRows
+pub mod Others
+pub mod Rounds
+pub mod Sources
+pub mod Start
+pub mod Worlds
