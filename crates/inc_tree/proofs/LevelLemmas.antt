@@ -70,7 +70,7 @@ total_end zero (count ∷ counts) h = absurd (omega arith)
 total_end (suc k) [] h = refl
 total_end (suc k) (count ∷ counts) h = total_end k counts (omega arith)
 
-levels_zero : (below : ℕ) → levels zero below ≡ []
+pub levels_zero : (below : ℕ) → levels zero below ≡ []
 unfolding levels
 levels_zero below = refl
 

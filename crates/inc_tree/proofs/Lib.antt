@@ -1,7 +1,10 @@
+pub mod CollisionLemmas
+pub mod GrowthLemmas
 pub mod LaneLemmas
 pub mod LevelLemmas
 pub mod MessageLemmas
 pub mod PathLemmas
+pub mod RootLemmas
 pub mod RoundLemmas
 pub mod ShapeLemmas
 pub mod VerifyLemmas

@@ -1,9 +1,13 @@
 pub mod Cached
+pub mod Collision
 pub mod Geometry
+pub mod Grown
+pub mod HashLevel
 pub mod Inverse
 pub mod Lanes
 pub mod Limits
 pub mod Path
+pub mod Root
 pub mod Shown
 pub mod Unproved
 pub mod Verified

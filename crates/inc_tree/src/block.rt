@@ -1,7 +1,8 @@
 // Blocks, and lists of them. Neither type says how its memory is kept: contracts see the bytes alone.
-ghost use Rattle.std.specs.Prelude.{◌≡◌, ◌≢◌, ◌-◌, ◌≤◌, ◌++◌, ℕ, List, length, take, replicate, vec_len, All, IfOk, IfSome, IfNone, OnSome};
+ghost use Rattle.std.specs.Prelude.{◌≡◌, ◌≢◌, ◌+◌, ◌-◌, ◌*◌, ◌<◌, ◌≤◌, ◌++◌, ℕ, List, length, take, drop, replicate, vec_len, All, IfOk, IfSome, IfNone, OnSome};
+ghost use Rattle.inc_tree.specs.Path.{padded};
 
-use crate::{BLOCK_SIZE, OutOfMemory};
+use crate::{BLOCK_SIZE, DIGEST_SIZE, Digest32, OutOfMemory};
 use std::alloc::Global;
 use std::marker::Model;
 
@@ -56,6 +57,16 @@ impl Block {
         Ok(Block { bytes })
     }
 
+    // These bytes, filled up with zeros.
+    pub(crate) fn padded(alloc: Global, bytes: &[u8]) -> Result<Block, OutOfMemory>
+        requires { length bytes.now ≤ 4096 }
+        ensures value { IfOk result (λ block. block ≡ padded bytes.now) }
+    {
+        let mut bytes = bytes.to_vec(alloc)?;
+        bytes.resize(BLOCK_SIZE, 0)?;
+        Ok(Block { bytes })
+    }
+
     pub fn as_slice(&self) -> &[u8]
         ensures value { result.now ≡ self.now }
         ensures len { length result.now ≡ 4096 }
@@ -77,6 +88,15 @@ impl Block {
     {
         let bytes = self.bytes.as_slice().to_vec(alloc)?;
         Ok(Block { bytes })
+    }
+
+    // Puts a digest into one of the block's slots.
+    pub(crate) fn put_digest(&mut self, slot: u32, digest: &Digest32)
+        requires { slot < 128 }
+        ensures value { self.new ≡ take (32 * slot) self.old ++ (digest.now ++ drop (32 * slot + 32) self.old) }
+    {
+        let at = slot as usize * DIGEST_SIZE;
+        self.bytes[at..at + DIGEST_SIZE].copy_from_slice(digest);
     }
 
     /// Puts zeros from the byte `from` on, as a block that ends there is hashed.

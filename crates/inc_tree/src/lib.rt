@@ -1,14 +1,22 @@
 //! The Merkle tree of a file, as fs-verity has it with SHA-256 and blocks of 4096 bytes: the shape that a size gives, the digest of a
-//! block, the path from a data block to the root, and a block whose path was checked.
+//! block, the path from a data block to the root, a block whose path was checked, and the whole tree of a content.
 //!
 //! A [`Verified`] is a block that the root vouches for. `verify` alone makes one, and it answers exactly where each digest on the path
 //! is the one that the level above it names, up to the root itself. A file without a signature has no tree and no root: its shape is
 //! flat, and its blocks are [`Unproved`]. [`Shown`] keeps the two apart for whoever prints a block.
+//!
+//! [`build`] makes the [`Tree`] of a content, in which each block has a path that its root vouches for. A content that isn't in memory is
+//! hashed block by block into a [`HashLevel`], and `tree_over` makes the same tree. `collision` says what it would take for another block
+//! to pass as the content's: two blocks of one digest.
 #![tactic(auto)]
 
 mod block;
+mod building;
+mod colliding;
 mod digest;
 mod geometry;
+mod growing;
+mod hash_level;
 mod path;
 mod shown;
 #[cfg(test)]
@@ -17,8 +25,11 @@ mod unproved;
 mod verified;
 
 pub use block::{Block, Path};
+pub use building::{Tree, TreeFault, build, tree_over};
+pub use colliding::collision;
 pub use digest::{digest_block, digest_blocks, digest_four};
 pub use geometry::{Geometry, TooLarge};
+pub use hash_level::HashLevel;
 pub use path::{Broken, check_path, slot_digest};
 pub use shown::Shown;
 use std::alloc::AllocError;

@@ -8,6 +8,8 @@ use std::alloc::{AllocError, Global};
 use std::process::Abort;
 use std::test::Fail;
 
+mod trees;
+
 // The values are FIPS 180-4's and those of fs-verity: SHA-256 of 4096 zeros, and the roots of generated contents.
 const ZEROS_DIGEST: Digest32 = [
     0xad, 0x7f, 0xac, 0xb2, 0x58, 0x6f, 0xc6, 0xe9, 0x66, 0xc0, 0x04, 0xd7, 0xd1, 0xd1, 0x6b, 0x02,
