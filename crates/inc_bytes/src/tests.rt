@@ -32,15 +32,28 @@ fn a_number_that_is_put_is_got_and_the_other_bytes_stay(rt: HostRuntime) {
 }
 
 #[test]
-fn numbers_and_spans_are_appended(rt: HostRuntime) -> Result<(), Fail> {
+fn numbers_are_appended(rt: HostRuntime) -> Result<(), Fail> {
     let mut bytes = Vec::new(rt.alloc());
     push_u16(&mut bytes, 0x0201)?;
     push_u32(&mut bytes, 0x0605_0403)?;
     push_u64(&mut bytes, 9)?;
     assert_eq!(rt; bytes.len(), 14);
     assert_eq!(rt; get_u32(&bytes, 2), Some(0x0605_0403));
+    Ok(())
+}
+
+#[test]
+fn a_list_keeps_its_order(rt: HostRuntime) -> Result<(), Fail> {
+    let first = Span { at: 1, len: 4 };
+    let second = Span { at: 2, len: 4 };
     let mut spans = SpanList::new(rt.alloc());
-    spans.push(Span { at: 3, len: 4 })?;
-    assert_eq!(rt; spans.into_vec().len(), 1);
+    assert!(rt; spans.is_empty());
+    spans.push(first)?;
+    spans.push(second)?;
+    let copy = SpanList::of(rt.alloc(), spans.as_slice())?;
+    assert_eq!(rt; spans.remove(0), first);
+    assert_eq!(rt; spans.into_vec().as_slice(), [second].as_slice());
+    assert_eq!(rt; copy.clone()?.as_slice(), [first, second].as_slice());
+    assert_eq!(rt; copy.len(), 2);
     Ok(())
 }

@@ -45,8 +45,8 @@ unfoldable pub root_word : List ℕ
 root_word = codes "--root"
 
 -- the 32 bytes of 64 hex digits
-abbrev pub root_of : List ℕ → Option (List ℕ)
-root_of word = result_ok (decode_sized word 32)
+abbrev pub given_root : List ℕ → Option (List ℕ)
+given_root word = result_ok (decode_sized word 32)
 
 abbrev pub root_end : ℕ → List (List ℕ) → Option (List ℕ) → Result (Option (List ℕ)) ℕ
 root_end position words None = Err position
@@ -55,7 +55,7 @@ root_end position (word ∷ words) (Some root) = Err (position + 1)
 
 abbrev pub root_value : ℕ → List (List ℕ) → Result (Option (List ℕ)) ℕ
 root_value position [] = Err position
-root_value position (word ∷ words) = root_end position words (root_of word)
+root_value position (word ∷ words) = root_end position words (given_root word)
 
 -- the words from this position on give a root, or none, or there the first of them that doesn't fit stands
 abbrev pub root_words : ℕ → List (List ℕ) → Result (Option (List ℕ)) ℕ

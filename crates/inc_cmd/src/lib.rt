@@ -24,6 +24,3 @@ pub use status::Status;
 pub use words::{Command, WordsFault, parse_words};
 
 type OutOfMemory = std::alloc::AllocError;
-
-#[cfg(test)]
-mod tests;

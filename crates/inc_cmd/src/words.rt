@@ -10,7 +10,7 @@ use inc_bytes::Id;
 use inc_io::Name;
 use inc_tree::Digest32;
 use std::alloc::{AllocError, Global};
-use values::{id_of, index_of, root_of, size_of};
+use values::{given_root, id_of, index_of, size_of};
 
 /// A command as its words name it.
 #[derive(Drop)]
@@ -273,11 +273,11 @@ fn parse_root_value(words: &[String], position: usize) -> Result<Option<Digest32
 {
     match words {
         [] => Err(WordsFault::Bad { at: position }),
-        [word] => match root_of(word.as_str()) {
+        [word] => match given_root(word.as_str()) {
             Some(root) => Ok(Some(root)),
             None => Err(WordsFault::Bad { at: position }),
         },
-        [word, _, ..] => match root_of(word.as_str()) {
+        [word, _, ..] => match given_root(word.as_str()) {
             Some(_) => Err(WordsFault::Bad { at: position + 1 }),
             None => Err(WordsFault::Bad { at: position }),
         },

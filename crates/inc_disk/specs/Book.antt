@@ -35,6 +35,6 @@ is_failed (Err OutOfMemory) = false
 -- a disk that was just lent: it fails past so many bytes and past so many calls, of which none was made
 pub record IsFresh (room calls : ℕ) (disk : MemDisk) : Type 0 where
   pub room_is : disk.room ≡ room
-  pub limit : disk.plan.limit ≡ Some calls
-  pub failing : disk.plan.failing.items ≡ []
-  pub made : disk.plan.made ≡ 0
+  pub limit : disk.limit ≡ Some calls
+  pub failing : disk.schedule.failing.items ≡ []
+  pub made : disk.schedule.made ≡ 0

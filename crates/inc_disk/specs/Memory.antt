@@ -3,11 +3,11 @@ use Rattle.std.specs.Prelude.{◌≡◌, ◌==◌, ◌||◌, ℕ, nat_le, Bool, 
 use Rattle.std.specs.Option.{unwrap_or}
 use Rattle.std.specs.List.{list_any}
 use Rattle.std.specs.declared.alloc.Global.{Global}
+use Rattle.inc_io.specs.declared.schedule.Schedule.{Schedule}
 use Rattle.inc_disk.specs.Disk.{DiskState, touched, overwritten, settled}
 use Rattle.inc_disk.specs.declared.history.Call.{Call}
 use Rattle.inc_disk.specs.declared.history.Call.TheVariants.{Wrote, Synced, NotSynced}
 use Rattle.inc_disk.specs.declared.history.History.TheInside.{Inside as HistoryInside}
-use Rattle.inc_disk.specs.declared.plan.Plan.{Plan}
 use Rattle.inc_disk.specs.declared.state.State.TheInside.{Inside as StateInside}
 
 -- while nothing is kept back, the bytes of the last sync are those that a read gives
@@ -50,5 +50,5 @@ is_past_limit None made = false
 is_past_limit (Some limit) made = nat_le limit made
 
 -- whether the next call is to fail
-abbrev pub is_to_fail : Plan → Bool
-is_to_fail plan = list_any (λ number. number == plan.made) plan.failing.items || is_past_limit plan.limit plan.made
+abbrev pub is_to_fail : Schedule → Option ℕ → Bool
+is_to_fail schedule limit = list_any (λ number. number == schedule.made) schedule.failing.items || is_past_limit limit schedule.made

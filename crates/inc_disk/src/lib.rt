@@ -15,7 +15,6 @@ mod laws;
 mod memory_disk;
 mod memory_shelf;
 mod newest;
-mod plan;
 mod shelf;
 mod shelf_log;
 mod state;
@@ -30,8 +29,3 @@ pub use shelf::Shelf;
 
 /// The one answer that no clause ties to a cause: the allocator refused.
 pub type OutOfMemory = std::alloc::AllocError;
-
-#[cfg(test)]
-mod shelf_tests;
-#[cfg(test)]
-mod tests;

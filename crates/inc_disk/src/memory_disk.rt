@@ -1,13 +1,12 @@
 ghost use Rattle.std.specs.Prelude.{◌≡◌, ◌⊎◌, ◌+◌, ◌-◌, ◌/◌, ◌^◌, ◌++◌, ◌<◌, ◌≤◌, [], ◌∷◌, length, take, drop, min, is_err, IsTrue, IsOk, IfSome, IfOk, IfErr, OnOk, OnErr, Some, None, false, true, refl};
 ghost use Rattle.inc_io.specs.Causes.{HasCause};
 ghost use Rattle.inc_disk.specs.Disk.{Now, SoundNow, IsImage, Writes, Syncs, is_dirty, reads_of, settled};
-ghost use Rattle.inc_disk.specs.Memory.{after, is_to_fail};
+ghost use Rattle.inc_disk.specs.Memory.{after, is_past_limit, is_to_fail};
 
 use crate::history::{Call, History};
-use crate::plan::Plan;
 use crate::state::State;
 use crate::{Disk, OutOfMemory};
-use inc_io::{Backing, Bytes, Failed, copy_part};
+use inc_io::{Backing, Bytes, Failed, Schedule, copy_part};
 use std::alloc::Global;
 
 /// A disk in memory, for tests. It keeps a record of all its writes and syncs, so the images of every moment are known.
@@ -16,7 +15,9 @@ pub struct MemDisk {
     alloc: Global,
     history: History,
     room: u64,
-    plan: Plan,
+    /// The calls from this one on fail.
+    limit: Option<u64>,
+    schedule: Schedule,
     ghost is_sound: { SoundNow history },
 }
 
@@ -33,25 +34,34 @@ impl MemDisk {
         ensures made { IsOk result }
         ensures states { IfOk result (λ disk. disk.history ≡ settled bytes ∷ []) }
         ensures room { IfOk result (λ disk. disk.room ≡ room) }
-        ensures limit { IfOk result (λ disk. disk.plan.limit ≡ Some calls) }
-        ensures failing { IfOk result (λ disk. disk.plan.failing.items ≡ fail.items) }
-        ensures begun { IfOk result (λ disk. (disk.plan.made ≡ 0) × (disk.plan.faults ≡ 0)) }
+        ensures limit { IfOk result (λ disk. disk.limit ≡ Some calls) }
+        ensures failing { IfOk result (λ disk. disk.schedule.failing.items ≡ fail.items) }
+        ensures begun { IfOk result (λ disk. (disk.schedule.made ≡ 0) × (disk.schedule.faults ≡ 0)) }
     {
         let state = State::settled(alloc, bytes);
-        Ok(MemDisk::of(alloc, state, room, Plan::new(fail, Some(calls))))
+        let limit = Some(u64::from(calls));
+        Ok(MemDisk::of(alloc, state, room, limit, Schedule::new(fail)))
     }
 
     /// A disk that begins in this state, synced or not.
-    pub fn of(alloc: Global, state: State, room: u64, plan: Plan) -> MemDisk
+    pub fn of(
+        alloc: Global,
+        state: State,
+        room: u64,
+        limit: Option<u64>,
+        schedule: Schedule,
+    ) -> MemDisk
         ensures states { result.history ≡ state ∷ [] }
         ensures room { result.room ≡ room }
-        ensures plan { result.plan ≡ plan }
+        ensures limit { result.limit ≡ limit }
+        ensures schedule { result.schedule ≡ schedule }
     {
         MemDisk {
             alloc,
             history: History::of(alloc, state),
             room,
-            plan,
+            limit,
+            schedule,
         }
     }
 
@@ -97,9 +107,9 @@ impl MemDisk {
         ensures image { OnOk result (Now self.history (λ state. IsImage state image)) }
         ensures states { IfOk result (λ disk. disk.history ≡ settled image ∷ []) }
         ensures room { IfOk result (λ disk. disk.room ≡ self.room) }
-        ensures limit { IfOk result (λ disk. disk.plan.limit ≡ None) }
-        ensures failing { IfOk result (λ disk. disk.plan.failing.items ≡ []) }
-        ensures begun { IfOk result (λ disk. (disk.plan.made ≡ 0) × (disk.plan.faults ≡ 0)) }
+        ensures limit { IfOk result (λ disk. disk.limit ≡ None) }
+        ensures failing { IfOk result (λ disk. disk.schedule.failing.items ≡ []) }
+        ensures begun { IfOk result (λ disk. (disk.schedule.made ≡ 0) × (disk.schedule.faults ≡ 0)) }
         ensures refused { OnErr result (Now self.history (λ state. ¬ (IsImage state image))) }
         ensures same { IfErr result (λ disk. disk ≡ self) }
     {
@@ -108,27 +118,27 @@ impl MemDisk {
         }
         let alloc = self.alloc;
         let state = State::settled(alloc, image);
-        let plan = Plan::new(Vec::new(alloc), None);
-        Ok(MemDisk::of(alloc, state, self.room, plan))
+        let schedule = Schedule::new(Vec::new(alloc));
+        Ok(MemDisk::of(alloc, state, self.room, None, schedule))
     }
 
     /// How many calls have been made.
     pub fn made(&self) -> u32
-        ensures value { result ≡ self.now.plan.made }
+        ensures value { result ≡ min self.now.schedule.made (2 ^ 32 - 1) }
     {
-        self.plan.made
+        u32::try_from(self.schedule.made).unwrap_or(u32::MAX)
     }
 
     /// Makes the disk fail past so many further calls.
     pub fn allow(&mut self, further: u32)
-        ensures limit { self.new.plan.limit ≡ Some (min (self.old.plan.made + further) (2 ^ 32 - 1)) }
-        ensures failing { self.new.plan.failing.items ≡ self.old.plan.failing.items }
-        ensures made { self.new.plan.made ≡ self.old.plan.made }
-        ensures faults { self.new.plan.faults ≡ self.old.plan.faults }
+        ensures limit { self.new.limit ≡ Some (min (self.old.schedule.made + further) (2 ^ 64 - 1)) }
+        ensures failing { self.new.schedule.failing.items ≡ self.old.schedule.failing.items }
+        ensures made { self.new.schedule.made ≡ self.old.schedule.made }
+        ensures faults { self.new.schedule.faults ≡ self.old.schedule.faults }
         ensures states { self.new.history ≡ self.old.history }
         ensures room { self.new.room ≡ self.old.room }
     {
-        self.plan.limit = Some(self.plan.made.saturating_add(further));
+        self.limit = Some(self.schedule.made.saturating_add(u64::from(further)));
     }
 }
 
@@ -139,25 +149,25 @@ impl Backing for MemDisk {
 
     ghost reads = { reads_of };
 
-    ghost faults = { λ disk. disk.plan.faults };
+    ghost faults = { λ disk. disk.schedule.faults };
 
     fn fault_count(&self) -> u64 {
-        self.plan.faults
+        self.schedule.faults
     }
 
     fn len(&mut self) -> Result<u64, Failed>
         ensures told { IfSome (reads_of self.old.history) (λ bytes. IfOk result (λ len. len ≡ length bytes)) }
         ensures kept { self.new.history ≡ self.old.history }
-        ensures cause { HasCause self.old.plan.faults self.new.plan.faults result }
+        ensures cause { HasCause self.old.schedule.faults self.new.schedule.faults result }
 
         // It fails exactly at the calls that are to fail.
-        ensures fails { is_err result ≡ is_to_fail self.old.plan }
-        ensures counted { self.new.plan.made ≡ min (self.old.plan.made + 1) (2 ^ 32 - 1) }
-        ensures same_failing { self.new.plan.failing.items ≡ self.old.plan.failing.items }
-        ensures same_limits { (self.new.plan.limit ≡ self.old.plan.limit) × (self.new.room ≡ self.old.room) }
+        ensures fails { is_err result ≡ is_to_fail self.old.schedule self.old.limit }
+        ensures counted { self.new.schedule.made ≡ min (self.old.schedule.made + 1) (2 ^ 64 - 1) }
+        ensures same_failing { self.new.schedule.failing.items ≡ self.old.schedule.failing.items }
+        ensures same_limits { (self.new.limit ≡ self.old.limit) × (self.new.room ≡ self.old.room) }
     {
-        if self.plan.call() {
-            return Err(self.plan.fault());
+        if next_fails(&mut self.schedule, self.limit) {
+            return Err(self.schedule.fault());
         }
         Ok(self.bytes().len() as u64)
     }
@@ -168,14 +178,14 @@ impl Backing for MemDisk {
             room.new ≡ take count (drop at bytes) ++ drop count room.old)) }
         ensures within { IfOk result (λ count. count ≤ length room.old) }
         ensures kept { self.new.history ≡ self.old.history }
-        ensures cause { HasCause self.old.plan.faults self.new.plan.faults result }
-        ensures fails { is_err result ≡ is_to_fail self.old.plan }
-        ensures counted { self.new.plan.made ≡ min (self.old.plan.made + 1) (2 ^ 32 - 1) }
-        ensures same_failing { self.new.plan.failing.items ≡ self.old.plan.failing.items }
-        ensures same_limits { (self.new.plan.limit ≡ self.old.plan.limit) × (self.new.room ≡ self.old.room) }
+        ensures cause { HasCause self.old.schedule.faults self.new.schedule.faults result }
+        ensures fails { is_err result ≡ is_to_fail self.old.schedule self.old.limit }
+        ensures counted { self.new.schedule.made ≡ min (self.old.schedule.made + 1) (2 ^ 64 - 1) }
+        ensures same_failing { self.new.schedule.failing.items ≡ self.old.schedule.failing.items }
+        ensures same_limits { (self.new.limit ≡ self.old.limit) × (self.new.room ≡ self.old.room) }
     {
-        if self.plan.call() {
-            return Err(self.plan.fault());
+        if next_fails(&mut self.schedule, self.limit) {
+            return Err(self.schedule.fault());
         }
         Ok(copy_part(self.bytes(), at, room))
     }
@@ -193,45 +203,66 @@ impl Disk for MemDisk {
         requires place { IfSome (reads_of self.old.history) (λ bytes. at ≤ length bytes) }
         requires end { at + length piece.now < 2 ^ 48 }
         ensures written { Writes at piece.now self.old.history self.new.history result }
-        ensures cause { HasCause self.old.plan.faults self.new.plan.faults result }
-        ensures planned { IsTrue (is_to_fail self.old.plan) → is_err result ≡ true }
+        ensures cause { HasCause self.old.schedule.faults self.new.schedule.faults result }
+        ensures planned { IsTrue (is_to_fail self.old.schedule self.old.limit) → is_err result ≡ true }
         ensures full { self.old.room < at + length piece.now → is_err result ≡ true }
 
         // Else it fails only where its record finds no memory, and then writes nothing.
-        ensures untouched { is_to_fail self.old.plan ≡ false → at + length piece.now ≤ self.old.room → OnErr result (self.new.history ≡ self.old.history) }
-        ensures counted { self.new.plan.made ≡ min (self.old.plan.made + 1) (2 ^ 32 - 1) }
-        ensures same_failing { self.new.plan.failing.items ≡ self.old.plan.failing.items }
-        ensures same_limits { (self.new.plan.limit ≡ self.old.plan.limit) × (self.new.room ≡ self.old.room) }
+        ensures untouched { is_to_fail self.old.schedule self.old.limit ≡ false → at + length piece.now ≤ self.old.room → OnErr result (self.new.history ≡ self.old.history) }
+        ensures counted { self.new.schedule.made ≡ min (self.old.schedule.made + 1) (2 ^ 64 - 1) }
+        ensures same_failing { self.new.schedule.failing.items ≡ self.old.schedule.failing.items }
+        ensures same_limits { (self.new.limit ≡ self.old.limit) × (self.new.room ≡ self.old.room) }
     {
-        let planned = self.plan.call();
+        let planned = next_fails(&mut self.schedule, self.limit);
         let full = self.room < at + piece.len() as u64;
         if planned | full {
             tear(&mut self.history, self.room, at, piece);
-            return Err(self.plan.fault());
+            return Err(self.schedule.fault());
         }
         if self.history.write(at, piece.len(), piece).is_err() {
-            return Err(self.plan.fault());
+            return Err(self.schedule.fault());
         }
         Ok(())
     }
 
     fn sync(&mut self) -> Result<(), Failed>
         ensures synced { Syncs self.old.history self.new.history result }
-        ensures cause { HasCause self.old.plan.faults self.new.plan.faults result }
-        ensures planned { IsTrue (is_to_fail self.old.plan) → is_err result ≡ true }
-        ensures untouched { is_to_fail self.old.plan ≡ false → OnErr result (self.new.history ≡ self.old.history) }
-        ensures counted { self.new.plan.made ≡ min (self.old.plan.made + 1) (2 ^ 32 - 1) }
-        ensures same_failing { self.new.plan.failing.items ≡ self.old.plan.failing.items }
-        ensures same_limits { (self.new.plan.limit ≡ self.old.plan.limit) × (self.new.room ≡ self.old.room) }
+        ensures cause { HasCause self.old.schedule.faults self.new.schedule.faults result }
+        ensures planned { IsTrue (is_to_fail self.old.schedule self.old.limit) → is_err result ≡ true }
+        ensures untouched { is_to_fail self.old.schedule self.old.limit ≡ false → OnErr result (self.new.history ≡ self.old.history) }
+        ensures counted { self.new.schedule.made ≡ min (self.old.schedule.made + 1) (2 ^ 64 - 1) }
+        ensures same_failing { self.new.schedule.failing.items ≡ self.old.schedule.failing.items }
+        ensures same_limits { (self.new.limit ≡ self.old.limit) × (self.new.room ≡ self.old.room) }
     {
-        if self.plan.call() {
+        if next_fails(&mut self.schedule, self.limit) {
             let _ = self.history.fail_sync();
-            return Err(self.plan.fault());
+            return Err(self.schedule.fault());
         }
         if self.history.sync().is_err() {
-            return Err(self.plan.fault());
+            return Err(self.schedule.fault());
         }
         Ok(())
+    }
+}
+
+/// Counts a call, and says whether it is to fail.
+fn next_fails(schedule: &mut Schedule, limit: Option<u64>) -> bool
+    ensures value { result ≡ is_to_fail schedule.old limit }
+    ensures counted { schedule.new.made ≡ min (schedule.old.made + 1) (2 ^ 64 - 1) }
+    ensures failing { schedule.new.failing.items ≡ schedule.old.failing.items }
+    ensures faults { schedule.new.faults ≡ schedule.old.faults }
+{
+    let past = is_past_limit(limit, schedule.made);
+    let listed = schedule.count_call();
+    listed | past
+}
+
+fn is_past_limit(limit: Option<u64>, made: u64) -> bool
+    ensures value { result ≡ is_past_limit limit made }
+{
+    match limit {
+        Some(limit) => limit <= made,
+        None => false,
     }
 }
 

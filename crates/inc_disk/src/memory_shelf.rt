@@ -15,11 +15,12 @@ use crate::book::Book;
 use crate::entry::Entry;
 use crate::history::History;
 use crate::newest::{names_of, newest};
-use crate::plan::Plan;
 use crate::shelf_log::ShelfLog;
 use crate::state::State;
 use crate::{MemDisk, OutOfMemory, Shelf};
-use inc_io::{Backing, Bytes, LendFault, Name, NameList, ReadShelf, Schedule};
+use inc_io::{
+    Backing, Bytes, LendFault, Name, NameList, ReadShelf, Schedule, has_name, remove_name,
+};
 use std::alloc::Global;
 
 /// A shelf in memory, for tests. It lends copies, so its files stay while they are out.
@@ -46,7 +47,7 @@ impl MemShelf {
         MemShelf {
             alloc,
             book: Book::new(alloc),
-            out: NameList::from_vec(Vec::new(alloc)),
+            out: NameList::new(alloc),
             room,
             calls,
             schedule: Schedule::new(Vec::new(alloc)),
@@ -74,7 +75,7 @@ impl MemShelf {
         ensures value { list_any (bytes_eq name.now) self.now.out ≡ false
             → option_copied result ≡ get (contents_of (log_of self.now.book.entries.items)) name.now }
     {
-        if self.out.contains(name) {
+        if has_name(self.out.as_slice(), name) {
             return None;
         }
         match newest(self.book.entries.as_slice(), name.as_str()) {
@@ -101,11 +102,12 @@ impl MemShelf {
     /// A disk that begins in this state.
     fn disk(&self, state: State) -> MemDisk
         ensures states { result.history ≡ state ∷ [] }
-        ensures faults { result.plan.faults ≡ 0 }
+        ensures faults { result.schedule.faults ≡ 0 }
         ensures fresh { IsFresh self.now.room self.now.calls result }
     {
-        let plan = Plan::new(Vec::new(self.alloc), Some(self.calls));
-        MemDisk::of(self.alloc, state, self.room, plan)
+        let limit = Some(u64::from(self.calls));
+        let schedule = Schedule::new(Vec::new(self.alloc));
+        MemDisk::of(self.alloc, state, self.room, limit, schedule)
     }
 
     /// Notes that a name is out, and holds room for what will be given back.
@@ -127,7 +129,7 @@ impl MemShelf {
         ensures found { IfOk result (λ lent. is_some lent ≡ is_some (newest_of name.now (log_of self.old.book.entries.items))) }
         ensures states { IfOk result (λ lent. IfSome lent (λ disk.
             disk.history ≡ option_to_list (newest_of name.now (log_of self.old.book.entries.items)))) }
-        ensures faults { IfOk result (λ lent. IfSome lent (λ disk. disk.plan.faults ≡ 0)) }
+        ensures faults { IfOk result (λ lent. IfSome lent (λ disk. disk.schedule.faults ≡ 0)) }
         ensures fresh { IfOk result (λ lent. IfSome lent (λ disk. IsFresh self.old.room self.old.calls disk)) }
         ensures lends { LendsName name.now (Some self.old.out) (Some self.new.out) result }
         ensures kept { self.new.book.entries.items ≡ self.old.book.entries.items }
@@ -148,7 +150,7 @@ impl MemShelf {
         ensures found { IfOk result (λ lent. is_some lent ≡ not (is_some (newest_of name.now (log_of self.old.book.entries.items)))) }
         ensures states { IfOk result (λ lent. IfSome lent (λ disk. disk.history ≡ settled [] ∷ [])) }
         ensures created { Creates name.now (Some (log_of self.old.book.entries.items)) (Some (log_of self.new.book.entries.items)) result }
-        ensures faults { IfOk result (λ lent. IfSome lent (λ disk. disk.plan.faults ≡ 0)) }
+        ensures faults { IfOk result (λ lent. IfSome lent (λ disk. disk.schedule.faults ≡ 0)) }
         ensures fresh { IfOk result (λ lent. IfSome lent (λ disk. IsFresh self.old.room self.old.calls disk)) }
         ensures lends { LendsName name.now (Some self.old.out) (Some self.new.out) result }
         ensures same_limits { (self.new.room ≡ self.old.room) × (self.new.calls ≡ self.old.calls) }
@@ -179,7 +181,7 @@ impl MemShelf {
         ensures same_limits { (self.new.room ≡ self.old.room) × (self.new.calls ≡ self.old.calls) }
     {
         self.schedule.faults = self.schedule.faults.saturating_add(faults);
-        self.out.remove(name)
+        remove_name(&mut self.out, name)
     }
 }
 
@@ -217,7 +219,7 @@ impl ReadShelf for MemShelf {
         ensures found { IfOk result (λ lent. is_some lent ≡ is_some (get (contents_of (log_of self.old.book.entries.items)) name.now)) }
         ensures reads { IfOk result (λ lent. IfSome lent (λ disk.
             reads_of disk.history ≡ get (contents_of (log_of self.old.book.entries.items)) name.now)) }
-        ensures fresh { IfOk result (λ lent. IfSome lent (λ disk. disk.plan.faults ≡ 0)) }
+        ensures fresh { IfOk result (λ lent. IfSome lent (λ disk. disk.schedule.faults ≡ 0)) }
         ensures lends { LendsName name.now (Some self.old.out) (Some self.new.out) result }
         ensures kept { log_of self.new.book.entries.items ≡ log_of self.old.book.entries.items }
         ensures cause { HasCauseAt lend_failed self.old.schedule.faults self.new.schedule.faults result }
@@ -239,7 +241,7 @@ impl ReadShelf for MemShelf {
         requires { IsOut name.now (Some self.old.out) }
         ensures returned { Some self.new.out ≡ Some (without name.now self.old.out) }
         ensures kept { log_of self.new.book.entries.items ≡ log_of self.old.book.entries.items }
-        ensures cause { Joins self.old.schedule.faults file.plan.faults self.new.schedule.faults }
+        ensures cause { Joins self.old.schedule.faults file.schedule.faults self.new.schedule.faults }
         ensures same_failing { self.new.schedule.failing.items ≡ self.old.schedule.failing.items }
         ensures same_made { self.new.schedule.made ≡ self.old.schedule.made }
         ensures same_limits { (self.new.room ≡ self.old.room) × (self.new.calls ≡ self.old.calls) }
@@ -260,7 +262,7 @@ impl Shelf for MemShelf {
         ensures found { IfOk result (λ lent. is_some lent ≡ is_some (newest_of name.now (log_of self.old.book.entries.items))) }
         ensures states { IfOk result (λ lent. IfSome lent (λ disk.
             disk.history ≡ option_to_list (newest_of name.now (log_of self.old.book.entries.items)))) }
-        ensures fresh { IfOk result (λ lent. IfSome lent (λ disk. disk.plan.faults ≡ 0)) }
+        ensures fresh { IfOk result (λ lent. IfSome lent (λ disk. disk.schedule.faults ≡ 0)) }
         ensures lends { LendsName name.now (Some self.old.out) (Some self.new.out) result }
         ensures kept { log_of self.new.book.entries.items ≡ log_of self.old.book.entries.items }
         ensures cause { HasCauseAt lend_failed self.old.schedule.faults self.new.schedule.faults result }
@@ -280,7 +282,7 @@ impl Shelf for MemShelf {
         ensures states { IfOk result (λ lent. IfSome lent (λ disk. disk.history ≡ settled [] ∷ [])) }
         ensures empty { IfOk result (λ lent. IfSome lent (λ disk. Now disk.history (λ state. state ≡ settled []))) }
         ensures created { Creates name.now (Some (log_of self.old.book.entries.items)) (Some (log_of self.new.book.entries.items)) result }
-        ensures fresh { IfOk result (λ lent. IfSome lent (λ disk. disk.plan.faults ≡ 0)) }
+        ensures fresh { IfOk result (λ lent. IfSome lent (λ disk. disk.schedule.faults ≡ 0)) }
         ensures lends { LendsName name.now (Some self.old.out) (Some self.new.out) result }
         ensures kept { KeepsUnlessLent (log_of self.old.book.entries.items) (log_of self.new.book.entries.items) result }
         ensures cause { HasCauseAt lend_failed self.old.schedule.faults self.new.schedule.faults result }
@@ -299,7 +301,7 @@ impl Shelf for MemShelf {
         requires { IsOut name.now (Some self.old.out) }
         ensures returned { Some self.new.out ≡ Some (without name.now self.old.out) }
         ensures logged { Some (log_of self.new.book.entries.items) ≡ Some (entries_of name.now disk.history ++ log_of self.old.book.entries.items) }
-        ensures cause { Joins self.old.schedule.faults disk.plan.faults self.new.schedule.faults }
+        ensures cause { Joins self.old.schedule.faults disk.schedule.faults self.new.schedule.faults }
         ensures same_failing { self.new.schedule.failing.items ≡ self.old.schedule.failing.items }
         ensures same_made { self.new.schedule.made ≡ self.old.schedule.made }
         ensures same_limits { (self.new.room ≡ self.old.room) × (self.new.calls ≡ self.old.calls) }

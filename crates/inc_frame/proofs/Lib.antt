@@ -2,3 +2,5 @@ pub mod FrontLemmas
 pub mod Counts
 pub mod FedLemmas
 pub mod Spelling
+pub mod WholeFrames
+pub mod EndedStreams

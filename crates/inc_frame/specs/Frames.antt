@@ -13,6 +13,7 @@
 use Rattle.std.specs.Prelude.{◌≡◌, ℕ, ◌+◌, ◌*◌, ◌^◌, ◌<◌, ◌≤◌, ◌⊎◌, Bool, true, false, List, [], ◌∷◌, ◌++◌, length, take, drop, slice_index, All, ◌==◌, if◌then◌else◌}
 use Rattle.std.specs.List.{flat_map}
 use Rattle.inc_bytes.specs.Fields.{AreBytes, le_bytes, field}
+use Rattle.inc_frame.specs.declared.stage.TheConstants.{HEAD_LEN, MOST_BYTES}
 use Rattle.inc_frame.specs.declared.piece.Piece.{Piece}
 
 -- ---- the spelling
@@ -45,7 +46,7 @@ pub record IsPiece (p : Piece) : Type 0 where
   pub compression : p.compression < 256
   pub bytes : AreBytes p.bytes
   pub some : 1 ≤ length p.bytes
-  pub most : length p.bytes ≤ 4096
+  pub most : length p.bytes ≤ MOST_BYTES
 
 -- by how many bytes a stream of this version has to have its end
 abbrev pub stream_limit : ℕ → ℕ
@@ -55,6 +56,14 @@ pub record IsStream (version : ℕ) (pieces : List Piece) : Type 0 where
   pub known : (version ≡ 1) ⊎ (version ≡ 2)
   pub each : All IsPiece pieces
   pub within : length (stream_bytes version pieces) ≤ stream_limit version
+
+-- the bytes begin with a stream of these pieces, which has so many bytes
+pub record BeginsWithStream (bytes : List ℕ) (pieces : List Piece) (count : ℕ) : Type 0 where
+  pub version : ℕ
+  pub rest : List ℕ
+  pub stream : IsStream version pieces
+  pub spelled : bytes ≡ stream_bytes version pieces ++ rest
+  pub counted : count ≡ length (stream_bytes version pieces)
 
 -- ---- the fields of a frame's bytes
 
@@ -67,5 +76,5 @@ piece_of frame = record {
   hash = slice_index frame 17 == 1;
   number = field 4 19 frame;
   compression = slice_index frame 18;
-  bytes = drop 25 frame;
+  bytes = drop HEAD_LEN frame;
 }

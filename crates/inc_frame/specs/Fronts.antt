@@ -2,6 +2,7 @@
 -- one after another, so a fault is known as soon as its own bytes have come, whatever follows them.
 use Rattle.std.specs.Prelude.{ℕ, ◌+◌, ◌-◌, Bool, true, false, ◌&&◌, ◌||◌, List, [], ◌∷◌, ◌++◌, length, slice_index, Option, Some, None, ◌==◌, nat_le, if◌then◌else◌}
 use Rattle.inc_frame.specs.Frames.{hello_bytes, stream_limit, frame_length, piece_of}
+use Rattle.inc_frame.specs.declared.stage.TheConstants.{HEAD_LEN, MOST_BYTES}
 use Rattle.inc_frame.specs.declared.piece.Piece.{Piece}
 use Rattle.inc_frame.specs.declared.fault.FrameFault.{FrameFault}
 use Rattle.inc_frame.specs.declared.fault.FrameFault.TheVariants.{BadHello, BadKind, BadLength, TooLong}
@@ -47,7 +48,7 @@ unfoldable pub frame_fault : List ℕ → ℕ → Option FrameFault
 frame_fault frame place =
     if length frame == 1 then (if slice_index frame 0 == 1 then None else Some (BadKind place))
     else (if length frame == 18 then (if nat_le (slice_index frame 17) 1 then None else Some (BadKind place))
-    else (if length frame == 25 then (if nat_le 1 (frame_length frame) && nat_le (frame_length frame) 4096 then None else Some (BadLength (place - 1)))
+    else (if length frame == HEAD_LEN then (if nat_le 1 (frame_length frame) && nat_le (frame_length frame) MOST_BYTES then None else Some (BadLength (place - 1)))
     else None))
 
 abbrev pub unless_fault : Option FrameFault → StreamFront → StreamFront
@@ -61,7 +62,7 @@ within_limit limit count rest pieces = if count == limit then record { pieces = 
 -- a frame with as many bytes as its length says is a piece
 unfoldable pub grown_front : ℕ → ℕ → List ℕ → StreamFront
 grown_front limit count frame =
-    if length frame == 25 + frame_length frame
+    if length frame == HEAD_LEN + frame_length frame
     then within_limit limit count [] (piece_of frame ∷ [])
     else within_limit limit count frame []
 

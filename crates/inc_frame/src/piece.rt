@@ -1,10 +1,8 @@
-ghost use Rattle.std.specs.Prelude.{◌≡◌, List, IfOk};
+ghost use Rattle.std.specs.Prelude.{◌≡◌};
 
-use crate::OutOfMemory;
-use inc_bytes::Id;
+use inc_bytes::{Id, Rows};
 use inc_io::Bytes;
-use std::alloc::Global;
-use std::marker::Model;
+use std::alloc::AllocError;
 
 /// One block of one file, as a loader gives it.
 #[derive(Drop)]
@@ -20,12 +18,12 @@ pub struct Piece {
     pub bytes: Bytes,
 }
 
-impl Piece {
-    fn copied(&self, alloc: Global) -> Result<Piece, OutOfMemory>
-        ensures value { IfOk result (λ copy. copy ≡ self.now) }
-    {
+impl Clone for Piece {
+    ghost is_clone = { λ piece copy. copy ≡ piece };
+
+    fn clone(&self) -> Result<Piece, AllocError> {
         let id = self.id;
-        let bytes = Bytes::of(alloc, self.bytes.as_slice())?;
+        let bytes = self.bytes.clone()?;
         Ok(Piece {
             id,
             hash: self.hash,
@@ -36,50 +34,5 @@ impl Piece {
     }
 }
 
-/// Pieces that own their memory.
-#[derive(Drop)]
-pub struct PieceList {
-    items: Vec<Piece>,
-}
-
-impl Model for PieceList {
-    ghost use Rattle.std.specs.Prelude.{List};
-    ghost use Rattle.inc_frame.specs.declared.piece.Piece.{Piece};
-
-    ghost Value = { List Piece };
-
-    ghost view = { λ pieces. pieces.items.items };
-}
-
-impl PieceList {
-    /// A copy of these pieces.
-    pub fn of(alloc: Global, pieces: &[Piece]) -> Result<PieceList, OutOfMemory>
-        ensures value { IfOk result (λ copy. copy ≡ pieces.now) }
-    {
-        let mut items = Vec::with_capacity(alloc, pieces.len())?;
-        for piece in pieces {
-            items.push(piece.copied(alloc)?)?;
-        }
-        Ok(PieceList { items })
-    }
-
-    /// The vector's pieces. It takes no memory.
-    pub fn from_vec(items: Vec<Piece>) -> PieceList
-        ensures value { result ≡ items.items }
-    {
-        PieceList { items }
-    }
-
-    /// Gives the pieces back as a vector.
-    pub fn into_vec(self) -> Vec<Piece>
-        ensures value { result.items ≡ self }
-    {
-        self.items
-    }
-
-    pub fn as_slice(&self) -> &[Piece]
-        ensures value { result.now ≡ self.now }
-    {
-        self.items.as_slice()
-    }
-}
+/// A list of pieces.
+pub type PieceList = Rows<Piece>;

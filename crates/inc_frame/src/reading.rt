@@ -5,7 +5,9 @@ ghost use Rattle.inc_frame.specs.Frames.{piece_of, frame_length, stream_limit};
 ghost use Rattle.inc_frame.specs.Fronts.{Framing, Faulty, byte_front, frame_fault, front_from, grown_front, hello_front, ends_stream, is_hello_byte, joined_front, no_piece, unless_fault, within_limit};
 ghost use Rattle.inc_frame.specs.ReaderStages.{stage_state};
 
-use crate::stage::{BodyPart, Failure, HEAD_LEN, HELLO_LEN, HeadPart, HelloPart, ReadStage};
+use crate::stage::{
+    BodyPart, Failure, HEAD_LEN, HELLO_LEN, HeadPart, HelloPart, MOST_BYTES, ReadStage,
+};
 use crate::{FrameFault, OutOfMemory, Piece};
 use inc_bytes::get_u32;
 use inc_io::Bytes;
@@ -22,9 +24,6 @@ pub const HELLO: [u8; HELLO_LEN] = [0x49, 0x4e, 0x43, 0x4c, 0x44, 0x52, 1, 0];
 
 /// The place of the hello's byte that tells the version.
 const VERSION_AT: usize = 6;
-
-/// The greatest number of a block's bytes.
-const MOST_BYTES: usize = 4096;
 
 // ---- the hello
 
@@ -115,7 +114,7 @@ fn frame_length(head: &[u8; HEAD_LEN]) -> usize
 /// Whether these are the end, and no frame.
 fn ends_stream(head: &[u8; HEAD_LEN], have: usize) -> bool
     requires some { 1 ≤ have }
-    requires most { have ≤ 25 }
+    requires most { have ≤ HEAD_LEN }
     ensures value { result ≡ ends_stream (take have head.now) }
 {
     let alone = have == 1;
@@ -127,11 +126,11 @@ fn ends_stream(head: &[u8; HEAD_LEN], have: usize) -> bool
 #[tactic(auto, unfolding(crate::specs::Fronts::frame_fault))]
 fn frame_fault(head: &[u8; HEAD_LEN], have: usize, place: u64) -> Option<FrameFault>
     requires some { 1 ≤ have }
-    requires most { have ≤ 25 }
+    requires most { have ≤ HEAD_LEN }
     requires behind { have ≤ place + 1 }
     ensures value { frame_fault (take have head.now) place ≡ result }
     ensures of_stream { IfSome result (λ fault. fault ≢ FrameFault.OutOfMemory) }
-    ensures size { result ≡ None → have ≡ 25 → (1 ≤ frame_length head.now) × (frame_length head.now ≤ 4096) }
+    ensures size { result ≡ None → have ≡ HEAD_LEN → (1 ≤ frame_length head.now) × (frame_length head.now ≤ MOST_BYTES) }
 {
     if have == 1 {
         if head[0] == FRAME {
@@ -182,8 +181,8 @@ fn after_sound_head(
     head: [u8; HEAD_LEN],
     have: usize,
 ) -> Result<ReadStage, OutOfMemory>
-    requires most { have ≤ 25 }
-    requires sound { have ≡ 25 → (1 ≤ frame_length head) × (frame_length head ≤ 4096) }
+    requires most { have ≤ HEAD_LEN }
+    requires sound { have ≡ HEAD_LEN → (1 ≤ frame_length head) × (frame_length head ≤ MOST_BYTES) }
     requires within { count ≤ limit }
     requires low { limit ≤ 2 ^ 36 }
     requires behind_hello { have + 8 ≤ count }

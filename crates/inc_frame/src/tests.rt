@@ -1,4 +1,6 @@
 use super::*;
+use crate::reading::advance;
+use crate::stage::{HEAD_LEN, HeadPart, ReadStage};
 use inc_bytes::Id;
 use inc_io::Bytes;
 use inc_pending::PendingRecord;
@@ -136,6 +138,34 @@ fn a_fault_is_at_its_first_byte(rt: HostRuntime) {
         fault_with(alloc, 31, &[1, 0x10]),
         Some(FrameFault::BadLength { at: 31 })
     );
+}
+
+/// The fault after these bytes of a stream of which all but so many may have come.
+fn fault_near_limit(alloc: Global, left: u64, bytes: &[u8]) -> Option<FrameFault> {
+    let limit = 1 << 33;
+    let stage = ReadStage::Head(HeadPart {
+        limit,
+        place: limit - left.clamp(1, 4096),
+        head: [0; HEAD_LEN],
+        have: 0,
+    });
+    match advance(alloc, stage, bytes, &mut Vec::new(alloc)) {
+        Ok(ReadStage::Failed(failure)) => Some(failure.fault),
+        Ok(_) | Err(_) => None,
+    }
+}
+
+#[test]
+fn a_stream_without_an_end_is_too_long(rt: HostRuntime) -> Result<(), Fail> {
+    let alloc = rt.alloc();
+    let bytes = zeros_stream(alloc)?;
+    let frame = bytes.as_slice().get(8..).ok_or("long enough")?;
+    let fault = Some(FrameFault::TooLong { at: 8589934592 });
+    assert_eq!(rt; fault_near_limit(alloc, 1, frame), fault);
+    assert_eq!(rt; fault_near_limit(alloc, 25, frame), fault);
+    assert_eq!(rt; fault_near_limit(alloc, 4000, frame), fault);
+    assert_eq!(rt; fault_near_limit(alloc, 1, &[2]), None);
+    Ok(())
 }
 
 #[test]

@@ -5,7 +5,7 @@ ghost use Rattle.inc_frame.specs.Fronts.{Ended, Framing, Greeting, front_from, j
 ghost use Rattle.inc_frame.specs.Requests.{request_bytes, request_bytes2, request_hello_bytes};
 
 use crate::reading::{END, FRAME, HELLO};
-use crate::stage::{HEAD_LEN, HELLO_LEN};
+use crate::stage::{HEAD_LEN, HELLO_LEN, MOST_BYTES};
 use crate::{OutOfMemory, Piece};
 use inc_bytes::Id;
 use inc_io::Bytes;
@@ -46,7 +46,7 @@ fn frame_with(
     number: u32,
     bytes: &[u8],
 ) -> Result<Vec<u8>, OutOfMemory>
-    requires most { length bytes.now ≤ 4096 }
+    requires most { length bytes.now ≤ MOST_BYTES }
     ensures value { IfOk result (λ frame. frame.items ≡ 1 ∷ id.now ++ (kind_byte hash ∷ compression ∷ []) ++ le_bytes 4 number ++ le_bytes 2 (length bytes.now) ++ bytes.now) }
     ensures id { (length id.now ≡ 16) × AreBytes id.now }
     ensures bytes { AreBytes bytes.now }
@@ -65,7 +65,7 @@ fn frame_with(
 /// The frame of a piece of 1 to 4096 bytes.
 pub fn write_frame(alloc: Global, p: &Piece) -> Result<Bytes, OutOfMemory>
     requires some { 1 ≤ length p.now.bytes }
-    requires most { length p.now.bytes ≤ 4096 }
+    requires most { length p.now.bytes ≤ MOST_BYTES }
     ensures value { IfOk result (λ frame. frame ≡ frame_bytes p.now) }
     ensures spelled { OnOk result (IsPiece p.now) }
     // It is read again where a frame may stand, whatever follows.

@@ -33,7 +33,7 @@ pub use memory_bell::MemBell;
 pub use memory_file::MemFile;
 pub use memory_sink::MemSink;
 pub use memory_source::MemSource;
-pub use name::{Name, NameList};
+pub use name::{Name, NameList, has_name, remove_name};
 pub use open_gate::OpenGate;
 pub use part::copy_part;
 pub use schedule::Schedule;

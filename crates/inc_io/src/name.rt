@@ -1,10 +1,11 @@
-ghost use Rattle.std.specs.Prelude.{◌≡◌, ◌++◌, List, ℕ, [], ◌∷◌, IfOk, OnOk, OnErr, IfSome, is_some, IsTrue};
+ghost use Rattle.std.specs.Prelude.{◌≡◌, List, ℕ, IfOk, IfSome, is_some};
 ghost use Rattle.std.specs.List.{list_all, list_any};
 ghost use Rattle.std.specs.Str.{is_utf8, bytes_eq};
 ghost use Rattle.std.specs.String.{string_bytes};
 ghost use Rattle.inc_io.specs.Names.{IsName, is_name, is_name_byte, is_here, is_above, without};
 
 use crate::OutOfMemory;
+use inc_bytes::Rows;
 use std::alloc::Global;
 use std::marker::Model;
 
@@ -103,65 +104,33 @@ fn is_above(bytes: &[u8]) -> bool
 }
 
 /// A list of names.
-#[derive(Drop)]
-pub struct NameList {
-    items: Vec<Name>,
-}
+pub type NameList = Rows<Name>;
 
-impl Model for NameList {
-    ghost Value = { List (List ℕ) };
-
-    ghost view = { λ names. names.items.items };
-}
-
-impl NameList {
-    /// The vector's names. It takes no memory.
-    pub fn from_vec(items: Vec<Name>) -> NameList
-        ensures value { result ≡ items.items }
-    {
-        NameList { items }
-    }
-
-    pub fn as_slice(&self) -> &[Name]
-        ensures value { result.now ≡ self.now }
-    {
-        self.items.as_slice()
-    }
-
-    /// Adds a name at the end.
-    pub fn push(&mut self, name: Name) -> Result<(), OutOfMemory>
-        ensures ok { OnOk result (self.new ≡ self.old ++ name ∷ []) }
-        ensures err { OnErr result (self.new ≡ self.old) }
-    {
-        self.items.push(name)?;
-        Ok(())
-    }
-
-    /// Takes this name out, wherever it stands, and gives it back where it was there.
-    pub fn remove(&mut self, name: &Name) -> Option<Name>
-        ensures value { self.new ≡ without name.now self.old }
-        ensures found { is_some result ≡ list_any (bytes_eq name.now) self.old }
-        ensures same { IfSome result (λ removed. removed ≡ name.now) }
-    {
-        let mut removed = None;
-        let mut at = 0;
-        while at < self.items.len() {
-            if is_same(name.as_str(), self.items[at].as_str()) {
-                removed = Some(self.items.remove(at));
-            } else {
-                at += 1;
-            }
+/// Takes this name out of the list, wherever it stands, and gives it back where it was there.
+pub fn remove_name(names: &mut NameList, name: &Name) -> Option<Name>
+    ensures value { names.new ≡ without name.now names.old }
+    ensures found { is_some result ≡ list_any (bytes_eq name.now) names.old }
+    ensures same { IfSome result (λ removed. removed ≡ name.now) }
+{
+    let mut removed = None;
+    let mut at = 0;
+    while at < names.len() {
+        if is_same(name.as_str(), names.as_slice()[at].as_str()) {
+            removed = Some(names.remove(at));
+        } else {
+            at += 1;
         }
-        removed
     }
+    removed
+}
 
-    pub fn contains(&self, name: &Name) -> bool
-        ensures value { result ≡ list_any (bytes_eq name.now) self.now }
-    {
-        self.items
-            .iter()
-            .any(|other| is_same(name.as_str(), other.as_str()))
-    }
+/// Whether this name is in the list.
+pub fn has_name(names: &[Name], name: &Name) -> bool
+    ensures value { result ≡ list_any (bytes_eq name.now) names.now }
+{
+    names
+        .iter()
+        .any(|other| is_same(name.as_str(), other.as_str()))
 }
 
 fn is_same(name: &str, other: &str) -> bool

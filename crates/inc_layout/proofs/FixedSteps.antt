@@ -21,7 +21,6 @@ use Rattle.inc_entry.specs.Spans.{IsInside, is_inside}
 use Rattle.inc_entry.proofs.SpanLemmas.{inside_means}
 use Rattle.inc_layout.specs.Faults.{GivesLayoutFault, chain_fault, told_header, told_sig}
 use Rattle.inc_layout.specs.Fixed.{Fixed, IsHeaderOf, blob_in, blob_span, blob_span_tests, fixed_of, front_of, if_passed, most_blob, most_length, needs_map, plain_of, sig_in, with_chain, with_front, with_plain, with_sig}
-use Rattle.inc_layout.specs.Opening.{AreRecordsInside}
 use Rattle.inc_layout.specs.Told.{GivesBlob, GivesFixed, GivesFront, IsBlobFault}
 use Rattle.inc_layout.specs.declared.fault.LayoutFault.{LayoutFault}
 use Rattle.inc_layout.specs.declared.fault.LayoutFault.TheVariants as faults
@@ -30,7 +29,6 @@ use Rattle.inc_layout.specs.declared.fixed.part.FixedPart.{FixedPart}
 use Rattle.inc_layout.specs.declared.fixed.part.Front.{Front}
 use Rattle.inc_layout.proofs.BoolLemmas.{is_le, not_le}
 use Rattle.inc_layout.proofs.FixedMeaning.{front_stands}
-use Rattle.inc_layout.proofs.RecordsInside.{records_inside}
 
 -- ---- faults
 
@@ -134,12 +132,6 @@ no_chain None len first needs header inner fault l f n is given = tt
 no_chain (Some bytes) len first needs header inner fault l f n is given =
     subst (λ (x : LayoutFault). GivesLayoutFault x (with_plain bytes (Ok header))) (sym is)
     (chain_passes inner bytes header _ (subst (λ (x : Result Records ChainFault). GivesChain (Err inner) x) (same_chain bytes len first needs header l f n) given))
-
--- a chain that was walked lies inside the file
-pub never_outside : (told : Option (List ℕ)) (len first : ℕ) (needs : Bool) (records : Records) (Q : List ℕ → Type 0)
-    → IfSome told (λ bytes. IsChain bytes len first needs records) → (AreRecordsInside len records → ⊥) → IfSome told (λ bytes. Q bytes)
-never_outside None len first needs records Q chain not = tt
-never_outside (Some bytes) len first needs records Q chain not = absurd (not (records_inside bytes len first needs records chain))
 
 pub with_records : (told : Option (List ℕ)) (len first : ℕ) (needs : Bool) (header : Header) (records : Records) (result : Result FixedPart LayoutFault)
     → HasLength told len → first ≡ place_of header.kind → needs ≡ needs_map header

@@ -1,5 +1,5 @@
 -- The digests of stored blocks, found one after the other or four at once, over a content that may not be told.
-use Rattle.std.proofs.Common.{◌≡◌, ℕ, suc, ◌+◌, ◌-◌, ◌<◌, ◌≤◌, Bool, true, false, List, [], ◌∷◌, ◌++◌, length, take, drop, get_or, replicate, Option, Some, None, Result, Ok, refl, sym, ap, ◌∙◌, subst, arith, length-append, length-drop}
+use Rattle.std.proofs.Common.{◌≡◌, ℕ, suc, ◌+◌, ◌-◌, ◌<◌, ◌≤◌, Bool, true, false, List, [], ◌∷◌, ◌++◌, length, take, drop, get_or, replicate, Option, Some, None, Result, Ok, refl, sym, ap, ◌∙◌, subst, arith, append_assoc, length-append, length-drop}
 use Rattle.std.specs.Prelude.{IfSome, is_some}
 use Rattle.std.proofs.lemmas.List.{length-take-le, take_at}
 use Rattle.inc_io.specs.Causes.{HasCauseAt}
@@ -71,6 +71,28 @@ found_more told places classes digests index next class b room digest found is_n
       stored = subst (λ (n : ℕ). IfSome told (λ bytes. classes ≡ listed (class_at places bytes) (entries places) → digests ++ digest ∷ [] ≡ listed (stored_digest places bytes) n)) up
           (digests_more told places index class classes digests digest (is class) lt (read_as told places index class digest (digest_if b room) same read) found.stored);
     }
+
+-- four of them
+module _ (told : Option (List ℕ)) (places : Places) (classes : List Class) (index : ℕ) where
+  abbrev pub IsNext : ℕ → Class → Bool → List ℕ → Type 0
+  IsNext at class b room = ((d : Class) → class ≡ get_or classes at d) × (b ≡ is_open_class class)
+      × IfSome told (λ bytes. class ≡ class_at places bytes at → digest_if b room ≡ digest_of places bytes at class)
+
+  one_next : (digests : List (Option (List ℕ))) (at next : ℕ) (class : Class) (b : Bool) (room : List ℕ) → next ≡ at + 1 → at < entries places → IsNext at class b room
+      → HasFound told places classes digests at → HasFound told places classes (digests ++ digest_if b room ∷ []) next
+  one_next digests at next class b room up lt is found = found_more told places classes digests at next class b room (digest_if b room) found up is.0 lt is.1 is.2 refl
+
+  pub found_four : (k0 k1 k2 k3 : Class) (b0 b1 b2 b3 : Bool) (r0 r1 r2 r3 : List ℕ) (four : List (Option (List ℕ))) → index + 4 ≤ entries places
+      → IsNext index k0 b0 r0 → IsNext (index + 1) k1 b1 r1 → IsNext (index + 2) k2 b2 r2 → IsNext (index + 3) k3 b3 r3
+      → four ≡ digest_if b0 r0 ∷ digest_if b1 r1 ∷ digest_if b2 r2 ∷ digest_if b3 r3 ∷ []
+      → (digests : List (Option (List ℕ))) → HasFound told places classes digests index → HasFound told places classes (digests ++ four) (index + 4)
+  found_four k0 k1 k2 k3 b0 b1 b2 b3 r0 r1 r2 r3 four le is0 is1 is2 is3 same digests found =
+      let one = one_next digests index (index + 1) k0 b0 r0 refl (omega arith) is0 found in
+      let two = one_next _ (index + 1) (index + 2) k1 b1 r1 (omega arith) (omega arith) is1 one in
+      let three = one_next _ (index + 2) (index + 3) k2 b2 r2 (omega arith) (omega arith) is2 two in
+      let all = one_next _ (index + 3) (index + 4) k3 b3 r3 (omega arith) (omega arith) is3 three in
+      let joined : (((digests ++ digest_if b0 r0 ∷ []) ++ digest_if b1 r1 ∷ []) ++ digest_if b2 r2 ∷ []) ++ digest_if b3 r3 ∷ [] ≡ digests ++ four = simp append_assoc (ap (λ (xs : List (Option (List ℕ))). digests ++ xs) (sym same)) in
+      subst (λ (xs : List (Option (List ℕ))). HasFound told places classes xs (index + 4)) joined all
 
 pub found_at : (told : Option (List ℕ)) (places : Places) (classes : List Class) (digests : List (Option (List ℕ))) (index next : ℕ) → index ≡ next
     → HasFound told places classes digests index → HasFound told places classes digests next

@@ -7,12 +7,13 @@ use Rattle.inc_bytes.proofs.Judging.{judged_ok}
 use Rattle.inc_tree.specs.Geometry.{Shape, flat_of, hash_blocks, tree_of}
 use Rattle.inc_header.specs.declared.header.HeaderKind.{HeaderKind}
 use Rattle.inc_header.specs.declared.header.HeaderKind.TheVariants as kind
+use Rattle.inc_md.specs.Inside.{AreRecordsInside}
 use Rattle.inc_md.specs.declared.records.SigRecord.{SigRecord}
 use Rattle.inc_signature.specs.declared.signature.SigInfo.{SigInfo}
 use Rattle.inc_entry.specs.Entry.{area_places, block_bytes, entries, entry_bytes}
 use Rattle.inc_entry.specs.Spans.{IsInside}
 use Rattle.inc_layout.specs.Fixed.{area_tests, shape_for}
-use Rattle.inc_layout.specs.Opening.{AreRecordsInside, IsPlainKind}
+use Rattle.inc_layout.specs.Opening.{IsPlainKind}
 use Rattle.inc_layout.specs.Told.{IsPlaced}
 use Rattle.inc_layout.specs.declared.fixed.part.FixedPart.{FixedPart}
 use Rattle.inc_layout.proofs.FixedMeaning.{areas_from}

@@ -29,6 +29,7 @@ use Rattle.inc_signature.specs.declared.signature.SigInfo.{SigInfo}
 use Rattle.inc_signature.specs.declared.signature.SigFault.{SigFault}
 use Rattle.inc_signature.specs.declared.signature.SigFault.TheVariants as signature_faults
 use Rattle.inc_entry.specs.declared.classes.Class.TheVariants.{Closed, Damaged}
+use Rattle.inc_md.specs.declared.kinds.TheConstants.{MAP_KIND, MAP_RECORD_SIZE, SIGNATURE_KIND, SIGNATURE_RECORD_SIZE, STATUS_KIND, STATUS_RECORD_SIZE}
 use Rattle.inc_layout.specs.Backing.{IsBackingFile}
 use Rattle.inc_entry.specs.Entry.{block_bytes, entry_bytes}
 use Rattle.inc_layout.specs.Fixed.{shape_for}
@@ -39,26 +40,7 @@ use Rattle.inc_layout.specs.declared.opened.Opened.{Opened}
 
 -- ---- places, for a content of this shape and a blob of `blob_size` bytes
 
--- the types and sizes of the records
-abbrev pub map_kind : ℕ
-map_kind = 1
-
-abbrev pub map_record_size : ℕ
-map_record_size = 35
-
-abbrev pub signature_kind : ℕ
-signature_kind = 3
-
-abbrev pub signature_record_size : ℕ
-signature_record_size = 47
-
-abbrev pub status_kind : ℕ
-status_kind = 4
-
-abbrev pub status_record_size : ℕ
-status_record_size = 55
-
--- where they stand, and what comes behind them
+-- where the records stand, and what comes behind them
 abbrev pub map_record_place : ℕ
 map_record_place = 56
 
@@ -115,14 +97,14 @@ abbrev pub record_head : ℕ → ℕ → ℕ → List ℕ
 record_head kind size next = kind ∷ le_bytes 2 size ++ le_bytes 4 0 ++ le_bytes 8 next ++ le_bytes 8 0
 
 unfoldable pub map_record : ℕ → ℕ → List ℕ
-map_record base count = record_head map_kind map_record_size second_record_place ++ le_bytes 8 base ++ le_bytes 4 count
+map_record base count = record_head MAP_KIND MAP_RECORD_SIZE second_record_place ++ le_bytes 8 base ++ le_bytes 4 count
 
 unfoldable pub signature_record : ℕ → ℕ → ℕ → List ℕ
 signature_record blob_size tree_size tree_at =
-    record_head signature_kind signature_record_size third_record_place ++ le_bytes 4 blob_size ++ le_bytes 8 blob_place ++ le_bytes 4 tree_size ++ le_bytes 8 tree_at
+    record_head SIGNATURE_KIND SIGNATURE_RECORD_SIZE third_record_place ++ le_bytes 4 blob_size ++ le_bytes 8 blob_place ++ le_bytes 4 tree_size ++ le_bytes 8 tree_at
 
 unfoldable pub status_record : List ℕ
-status_record = record_head status_kind status_record_size 0 ++ zeros 32
+status_record = record_head STATUS_KIND STATUS_RECORD_SIZE 0 ++ zeros 32
 
 abbrev pub fresh_header : ℕ → List ℕ → Header
 fresh_header size id = record { kind = Plain map_record_place; size = size; id = id }

@@ -3,8 +3,7 @@ use Rattle.std.specs.Prelude.{◌≡◌, ℕ, ◌<◌, ◌≤◌, ◌+◌, ◌*�
 use Rattle.inc_tree.specs.Geometry.{hash_blocks}
 use Rattle.inc_header.specs.declared.header.HeaderKind.{HeaderKind}
 use Rattle.inc_header.specs.declared.header.HeaderKind.TheVariants as kind
-use Rattle.inc_md.specs.declared.records.Records.{Records}
-use Rattle.inc_md.specs.declared.records.StatusRecord.{StatusRecord}
+use Rattle.inc_md.specs.Inside.{AreRecordsInside}
 use Rattle.inc_entry.specs.Spans.{AreApart, IsInside}
 use Rattle.inc_entry.specs.Entry.{Places, area_places, areas_of, block_bytes, entries, entry_bytes, map_span, tree_span}
 use Rattle.inc_entry.specs.Stored.{class_at, is_open_class, is_past}
@@ -34,7 +33,7 @@ IsPastFault places bytes (PlacePastEnd i) = first_past places bytes ≡ Some i
 IsPastFault places bytes fault = ⊥
 
 -- each class has its digest or none
-pub record AreDigests (classes : List Class) (digests : List (Option (List ℕ))) : Type 0 where
+pub record HaveDigests (classes : List Class) (digests : List (Option (List ℕ))) : Type 0 where
   pub count : length digests ≡ length classes
   pub each : (i : ℕ) → i < length classes → is_some (slice_index_or digests i None) ≡ is_open_class (slice_index_or classes i Damaged)
 
@@ -43,16 +42,6 @@ pub record AreDigests (classes : List Class) (digests : List (Option (List ℕ))
 abbrev pub IsPlainKind : HeaderKind → Type 0
 IsPlainKind (kind.Plain first) = Unit {0}
 IsPlainKind (kind.Mapped offset) = ⊥
-
--- the two counts of a status record end inside a file of so many bytes
-abbrev pub HasStatusInside : ℕ → Option StatusRecord → Type 0
-HasStatusInside len None = Unit {0}
-HasStatusInside len (Some status) = status.at + 8 ≤ len
-
--- what the records name lies inside the file: the status record's counts, and the head of the last record, where there is one
-pub record AreRecordsInside (len : ℕ) (records : Records) : Type 0 where
-  pub status : HasStatusInside len records.status
-  pub last : 0 < length records.spans → records.last + 23 ≤ len
 
 -- An empty map or tree may stand anywhere.
 pub record IsSoundLayout (layout : Layout) : Type 0 where
@@ -71,7 +60,7 @@ pub record IsSoundLayout (layout : Layout) : Type 0 where
 
 pub record IsSoundOpened (opened : Opened) : Type 0 where
   pub layout : IsSoundLayout (layout_in opened)
-  pub digests : AreDigests opened.classes opened.digests
+  pub digests : HaveDigests opened.classes opened.digests
 
 -- ---- what an opening answers
 

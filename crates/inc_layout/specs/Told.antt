@@ -1,13 +1,14 @@
 -- What the calls that open the fixed part of a file answer, by their results.
 use Rattle.std.specs.Prelude.{◌≡◌, ℕ, ◌+◌, ◌*◌, ◌^◌, ◌<◌, List, length, is_some, Result, Ok, Err}
 use Rattle.inc_tree.specs.Geometry.{hash_blocks}
+use Rattle.inc_md.specs.Inside.{AreRecordsInside}
 use Rattle.inc_signature.specs.declared.signature.SigInfo.{SigInfo}
 use Rattle.inc_signature.specs.declared.signature.SigFault.{SigFault}
 use Rattle.inc_entry.specs.Spans.{AreApart, IsInside}
 use Rattle.inc_entry.specs.Entry.{area_places, areas_of, block_bytes, entries, entry_bytes, map_span, tree_span}
 use Rattle.inc_layout.specs.Faults.{GivesLayoutFault}
 use Rattle.inc_layout.specs.Fixed.{Fixed, front_of, shape_for}
-use Rattle.inc_layout.specs.Opening.{AreRecordsInside, IsPlainKind}
+use Rattle.inc_layout.specs.Opening.{IsPlainKind}
 use Rattle.inc_layout.specs.declared.fault.LayoutFault.{LayoutFault}
 use Rattle.inc_layout.specs.declared.fault.LayoutFault.TheVariants.{Signature, ReadFault, OutOfMemory}
 use Rattle.inc_layout.specs.declared.fixed.part.FixedPart.{FixedPart}

@@ -1,15 +1,15 @@
 ghost use Rattle.std.specs.Prelude.{◌≡◌, ◌≤◌, ◌^◌, length, is_some, IfOk, IfSome, Ok};
 ghost use Rattle.inc_io.specs.Causes.{HasCauseAt};
+ghost use Rattle.inc_md.specs.Inside.{AreRecordsInside};
 ghost use Rattle.inc_signature.specs.Signature.{signature_of};
 ghost use Rattle.inc_layout.specs.Faults.{GivesOpening};
 ghost use Rattle.inc_layout.specs.Fixed.{IsHeaderOf, blob_in, blob_span, fixed_of, sig_in, with_chain, with_plain};
 ghost use Rattle.inc_entry.specs.Spans.{IsInside};
-ghost use Rattle.inc_layout.specs.Opening.{AreRecordsInside};
 ghost use Rattle.inc_layout.specs.Told.{GivesBlob, GivesFixed, GivesFront, IsPlaced};
 ghost use Rattle.inc_layout.specs.declared.fault.LayoutFault.TheVariants.{ReadFault as read_fault};
 
 use crate::LayoutFault;
-use crate::room::fill;
+use crate::room::{fill, room_of};
 use inc_header::{HEADER_LEN, read_header};
 use inc_io::Backing;
 use inc_md::{Records, SigRecord, walk};
@@ -21,7 +21,7 @@ mod part;
 mod places;
 mod plain;
 
-use judging::{check_blob, check_inside, plain_front};
+use judging::{check_blob, plain_front};
 pub use part::{FixedPart, Front};
 use places::with_areas;
 use plain::PlainFront;
@@ -77,7 +77,6 @@ fn open_chain<B: Backing>(
 {
     let needs_map = plain.flat.data_blocks() > 0;
     let records = walk(alloc, file, plain.len, plain.first, needs_map)?;
-    check_inside(&records, plain.len)?;
     open_signature(alloc, file, plain, records)
 }
 
@@ -130,7 +129,7 @@ fn read_blob<B: Backing>(
     ensures kept { B.kept file.new ≡ B.kept file.old }
     ensures cause { HasCauseAt read_fault (B.faults file.old) (B.faults file.new) result }
 {
-    let mut blob = vec![in alloc; 0u8; signature.sig_size as usize]?;
+    let mut blob = room_of(alloc, signature.sig_size as usize)?;
     if signature.sig_size > 0 {
         fill(file, signature.sig_at, blob.as_mut_slice())?;
     }

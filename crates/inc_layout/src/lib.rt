@@ -43,6 +43,3 @@ pub use static_read::{read_laid, read_opened, show_laid, show_opened};
 pub use stored_error::StoredError;
 
 type OutOfMemory = std::alloc::AllocError;
-
-#[cfg(test)]
-mod tests;

@@ -1,11 +1,11 @@
-ghost use Rattle.std.specs.Prelude.{◌≡◌, ◌+◌, ◌-◌, ◌^◌, ◌<◌, ◌≤◌, ℕ, false, [], ◌∷◌, ◌++◌, length, replicate, take, slice_index_or, IfOk, IfErr, IfSome, OnOk, ◌⊎◌};
+ghost use Rattle.std.specs.Prelude.{◌≡◌, ◌+◌, ◌-◌, ◌^◌, ◌<◌, ◌≤◌, ℕ, List, Option, false, [], ◌∷◌, ◌++◌, length, replicate, take, slice_index_or, IfOk, IfErr, IfSome, OnOk, ◌⊎◌};
 ghost use Rattle.inc_io.specs.Causes.{HasCause, HasCauseAt};
 ghost use Rattle.inc_entry.specs.Entry.{entries, area_places};
 ghost use Rattle.inc_entry.specs.declared.classes.Class.{Class};
 ghost use Rattle.inc_entry.specs.Stored.{class_at, digest_of, is_open_class, stored_digest};
 ghost use Rattle.inc_layout.specs.Found.{HasFound, digest_if};
 ghost use Rattle.inc_layout.specs.Listed.{listed};
-ghost use Rattle.inc_layout.specs.Opening.{AreDigests};
+ghost use Rattle.inc_layout.specs.Opening.{HaveDigests};
 ghost use Rattle.inc_layout.specs.declared.fault.LayoutFault.TheVariants.{OutOfMemory as out_of_memory, ReadFault as read_fault};
 
 use crate::LayoutFault;
@@ -25,7 +25,7 @@ pub fn read_digests<B: Backing>(
     requires count { length classes.now ≡ entries (area_places areas.now) }
     ensures digests { IfSome (B.reads (B.kept file.old)) (λ bytes. classes.now ≡ listed (class_at (area_places areas.now) bytes) (entries (area_places areas.now)) →
         IfOk result (λ digests. digests.items ≡ listed (stored_digest (area_places areas.now) bytes) (entries (area_places areas.now)))) }
-    ensures there { IfOk result (λ digests. AreDigests classes.now digests.items) }
+    ensures there { IfOk result (λ digests. HaveDigests classes.now digests.items) }
     ensures failed { IfErr result (λ fault. (fault ≡ read_fault) ⊎ (fault ≡ out_of_memory)) }
     ensures kept { B.kept file.new ≡ B.kept file.old }
     ensures cause { HasCauseAt read_fault (B.faults file.old) (B.faults file.new) result }
@@ -57,7 +57,7 @@ pub fn read_digests<B: Backing>(
     Ok(digests)
 }
 
-// The digests of the next four entries. Their blocks are read in turn, and hashed side by side where all are open.
+// The digests of the next four entries.
 fn add_four<B: Backing>(
     file: &mut B,
     areas: &Areas,
@@ -76,6 +76,28 @@ fn add_four<B: Backing>(
     ensures kept { B.kept file.new ≡ B.kept file.old }
     ensures cause { HasCauseAt read_fault (B.faults file.old) (B.faults file.new) result }
 {
+    let four = read_four(file, areas, classes, index, rooms)?;
+    digests.extend_from_slice(&four)?;
+    Ok(())
+}
+
+// The blocks of four entries are read in turn, and hashed side by side where all are open.
+fn read_four<B: Backing>(
+    file: &mut B,
+    areas: &Areas,
+    classes: &[Class],
+    index: u32,
+    rooms: &mut [u8],
+) -> Result<[Option<Digest32>; 4], Failed>
+    requires here { index + 4 ≤ entries (area_places areas.now) }
+    requires small { index + 4 < 2 ^ 32 }
+    requires count { length classes.now ≡ entries (area_places areas.now) }
+    requires rooms { length rooms.old ≡ 16384 }
+    ensures more { IfOk result (λ four. (digests : List (Option (List ℕ))) → HasFound (B.reads (B.kept file.old)) (area_places areas.now) classes.now digests index →
+        HasFound (B.reads (B.kept file.old)) (area_places areas.now) classes.now (digests ++ four) (index + 4)) }
+    ensures kept { B.kept file.new ≡ B.kept file.old }
+    ensures cause { HasCause (B.faults file.old) (B.faults file.new) result }
+{
     let (first, rest) = rooms.split_at_mut(BLOCK_SIZE);
     let (second, rest) = rest.split_at_mut(BLOCK_SIZE);
     let (third, fourth) = rest.split_at_mut(BLOCK_SIZE);
@@ -83,12 +105,7 @@ fn add_four<B: Backing>(
     let b = read_open(file, areas, index + 1, class_at(classes, index + 1), second)?;
     let c = read_open(file, areas, index + 2, class_at(classes, index + 2), third)?;
     let d = read_open(file, areas, index + 3, class_at(classes, index + 3), fourth)?;
-    let [a, b, c, d] = digests_of([a, b, c, d], first, second, third, fourth);
-    digests.push(a)?;
-    digests.push(b)?;
-    digests.push(c)?;
-    digests.push(d)?;
-    Ok(())
+    Ok(digests_of([a, b, c, d], first, second, third, fourth))
 }
 
 fn add_one<B: Backing>(

@@ -4,6 +4,7 @@ use Rattle.std.specs.List.{find}
 use Rattle.inc_bytes.specs.Tests.{first_failing}
 use Rattle.inc_md.specs.declared.fault.ChainFault.{ChainFault}
 use Rattle.inc_md.specs.declared.fault.ChainFault.TheVariants.{TooMany, NoMap}
+use Rattle.inc_md.specs.declared.kinds.TheConstants.{HEAD_SIZE, MAP_KIND, SIGNATURE_KIND, STATUS_KIND, MOST_RECORDS}
 use Rattle.inc_md.specs.declared.records.Records.{Records}
 use Rattle.inc_md.specs.Record.{head_of, place_tests, head_tests, map_fields, sig_fields, status_fields, span_of}
 
@@ -15,7 +16,7 @@ first_of_kind bytes kind places = find (λ place. (head_of bytes place).kind == 
 abbrev pub record_tests : List ℕ → ℕ → List ℕ → ℕ → List (Bool × ChainFault)
 record_tests bytes len met at =
     place_tests (length met) len at
-    ++ head_tests (is_some (first_of_kind bytes 1 met)) (is_some (first_of_kind bytes 3 met)) len at (head_of bytes at)
+    ++ head_tests (is_some (first_of_kind bytes MAP_KIND met)) (is_some (first_of_kind bytes SIGNATURE_KIND met)) len at (head_of bytes at)
 
 -- after the records at `met`, those at these places follow each other: the first one stands at `at`, each passes its tests and
 -- names the place of the one after it, and the next one would stand at `next`
@@ -32,9 +33,9 @@ IsChainFront bytes len first places next = Follow bytes len [] first places next
 -- what the records at these places say: of each type the first one counts
 unfoldable pub records_of : List ℕ → List ℕ → Records
 records_of bytes places = record {
-  map = option_map (λ place. map_fields bytes (place + 23)) (first_of_kind bytes 1 places);
-  signature = option_map (λ place. sig_fields bytes (place + 23)) (first_of_kind bytes 3 places);
-  status = option_map (λ place. status_fields bytes (place + 23)) (first_of_kind bytes 4 places);
+  map = option_map (λ place. map_fields bytes (place + HEAD_SIZE)) (first_of_kind bytes MAP_KIND places);
+  signature = option_map (λ place. sig_fields bytes (place + HEAD_SIZE)) (first_of_kind bytes SIGNATURE_KIND places);
+  status = option_map (λ place. status_fields bytes (place + HEAD_SIZE)) (first_of_kind bytes STATUS_KIND places);
   spans = map (span_of bytes) places;
   last = slice_index places (length places - 1);
 }
@@ -53,11 +54,11 @@ places_from (suc more) bytes len met at =
     else unless_failing (first_failing (record_tests bytes len met at)) (places_from more bytes len (met ++ at ∷ []) (head_of bytes at).next)
 
 unfoldable pub places_along : List ℕ → ℕ → ℕ → Result (List ℕ) ChainFault
-places_along bytes len first = places_from 1024 bytes len [] first
+places_along bytes len first = places_from MOST_RECORDS bytes len [] first
 
 -- a map has to be there where it is needed
 abbrev pub records_if_mapped : List ℕ → Bool → Result (List ℕ) ChainFault → Result Records ChainFault
-records_if_mapped bytes need_map (Ok places) = if need_map && not (is_some (first_of_kind bytes 1 places)) then Err NoMap else Ok (records_of bytes places)
+records_if_mapped bytes need_map (Ok places) = if need_map && not (is_some (first_of_kind bytes MAP_KIND places)) then Err NoMap else Ok (records_of bytes places)
 records_if_mapped bytes need_map (Err fault) = Err fault
 
 unfoldable pub chain_of : List ℕ → ℕ → ℕ → Bool → Result Records ChainFault

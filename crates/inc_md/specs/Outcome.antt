@@ -3,6 +3,7 @@ use Rattle.std.specs.Prelude.{◌≡◌, ℕ, ◌<◌, ◌≤◌, Bool, true, Li
 use Rattle.inc_bytes.specs.Tests.{first_failing}
 use Rattle.inc_md.specs.declared.fault.ChainFault.{ChainFault}
 use Rattle.inc_md.specs.declared.fault.ChainFault.TheVariants.{NoMap, ReadFault, OutOfMemory}
+use Rattle.inc_md.specs.declared.kinds.TheConstants.{MAP_KIND, MOST_RECORDS}
 use Rattle.inc_md.specs.declared.records.Records.{Records}
 use Rattle.inc_md.specs.Chain.{record_tests, IsChainFront, first_of_kind, records_of}
 
@@ -20,7 +21,7 @@ GivesChain (Err fault) wanted = GivesChainFault fault wanted
 pub record IsChain (bytes : List ℕ) (len first : ℕ) (need_map : Bool) (records : Records) : Type 0 where
   pub places : List ℕ
   pub whole : IsChainFront bytes len first places 0
-  pub few : length places ≤ 1024
+  pub few : length places ≤ MOST_RECORDS
   pub said : records ≡ records_of bytes places
   pub mapped : need_map ≡ true → IsSome records.map
 
@@ -37,7 +38,7 @@ pub record HasNoMap (bytes : List ℕ) (len first : ℕ) (need_map : Bool) : Typ
   pub places : List ℕ
   pub whole : IsChainFront bytes len first places 0
   pub needed : need_map ≡ true
-  pub none : first_of_kind bytes 1 places ≡ None
+  pub none : first_of_kind bytes MAP_KIND places ≡ None
 
 abbrev pub HasFault : List ℕ → ℕ → ℕ → Bool → ChainFault → Type 0
 HasFault bytes len first need_map ReadFault = Unit {0}

@@ -1,4 +1,4 @@
--- One metadata record of a backing file. It begins with 23 bytes:
+-- One metadata record of a backing file. It begins with a head of 23 bytes:
 --
 --     at  bytes  field
 --      0      1  type
@@ -16,6 +16,7 @@ use Rattle.inc_bytes.specs.declared.span.Span.{Span}
 use Rattle.inc_md.specs.declared.fault.ChainFault.{ChainFault}
 use Rattle.inc_md.specs.declared.fault.ChainFault.TheVariants.{TooMany, Outside, BadSize, TwoMaps, TwoSignatures, NotRising}
 use Rattle.inc_md.specs.declared.head.Head.{Head}
+use Rattle.inc_md.specs.declared.kinds.TheConstants.{HEAD_SIZE, MAP_KIND, MAP_RECORD_SIZE, SIGNATURE_KIND, SIGNATURE_RECORD_SIZE, STATUS_KIND, STATUS_RECORD_SIZE, MOST_RECORDS}
 use Rattle.inc_md.specs.declared.records.MapRecord.{MapRecord}
 use Rattle.inc_md.specs.declared.records.SigRecord.{SigRecord}
 use Rattle.inc_md.specs.declared.records.StatusRecord.{StatusRecord}
@@ -26,13 +27,17 @@ head_of bytes at = record { kind = slice_index bytes at; size = field 2 (at + 1)
 
 -- whether a record of this type may have this size
 abbrev pub is_size : ℕ → ℕ → Bool
-is_size kind size = if kind == 1 then size == 35 else (if kind == 3 then size == 47 else (if kind == 4 then size == 55 else nat_le 23 size))
+is_size kind size =
+    if kind == MAP_KIND then size == MAP_RECORD_SIZE
+    else (if kind == SIGNATURE_KIND then size == SIGNATURE_RECORD_SIZE
+    else (if kind == STATUS_KIND then size == STATUS_RECORD_SIZE
+    else nat_le HEAD_SIZE size))
 
 -- the tests before a record's first byte is read, at a place with so many records before it
 abbrev pub place_tests : ℕ → ℕ → ℕ → List (Bool × ChainFault)
 place_tests before len at =
-    (nat_lt before 1024, TooMany)
-    ∷ (nat_le (at + 23) len, Outside at)
+    (nat_lt before MOST_RECORDS, TooMany)
+    ∷ (nat_le (at + HEAD_SIZE) len, Outside at)
     ∷ []
 
 -- the tests of what its first bytes say, after records that have a map, or a signature, or not
@@ -40,12 +45,12 @@ unfoldable pub head_tests : Bool → Bool → ℕ → ℕ → Head → List (Boo
 head_tests mapped signed len at head =
     (is_size head.kind head.size, BadSize at)
     ∷ (nat_le (at + head.size) len, Outside at)
-    ∷ (not (mapped && (head.kind == 1)), TwoMaps at)
-    ∷ (not (signed && (head.kind == 3)), TwoSignatures at)
+    ∷ (not (mapped && (head.kind == MAP_KIND)), TwoMaps at)
+    ∷ (not (signed && (head.kind == SIGNATURE_KIND)), TwoSignatures at)
     ∷ (((head.next == 0) || nat_le (at + head.size) head.next), NotRising at head.next)
     ∷ []
 
--- the fields of a block map record, from a place 23 bytes after its start
+-- the fields of a block map record, from the place behind its head
 abbrev pub map_fields : List ℕ → ℕ → MapRecord
 map_fields bytes at = record { base = field 8 at bytes; count = field 4 (at + 8) bytes }
 

@@ -4,16 +4,17 @@ use Rattle.std.specs.Prelude.{◌≡◌, ℕ, ◌+◌, ◌≤◌, Bool, true, fa
 use Rattle.std.specs.List.{list_any}
 use Rattle.inc_bytes.specs.declared.span.Span.{Span}
 use Rattle.inc_md.specs.Outcome.{IsChain}
+use Rattle.inc_md.specs.declared.kinds.TheConstants.{COUNTS_SIZE}
 use Rattle.inc_md.specs.declared.records.Records.{Records}
 use Rattle.inc_md.specs.declared.records.StatusRecord.{StatusRecord}
 
 abbrev pub in_span : ℕ → Span → Bool
 in_span place span = nat_le span.at place && nat_lt place (span.at + span.len)
 
--- the eight bytes of a status record's two counts
+-- the bytes of a status record's two counts
 abbrev pub in_counts : Option StatusRecord → ℕ → Bool
 in_counts None place = false
-in_counts (Some status) place = nat_le status.at place && nat_lt place (status.at + 8)
+in_counts (Some status) place = nat_le status.at place && nat_lt place (status.at + COUNTS_SIZE)
 
 abbrev pub is_chain_byte : Records → ℕ → Bool
 is_chain_byte records place = list_any (in_span place) records.spans && not (in_counts records.status place)

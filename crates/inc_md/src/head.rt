@@ -4,28 +4,12 @@ ghost use Rattle.inc_bytes.specs.Tests.{first_failing, judge};
 ghost use Rattle.inc_md.specs.Step.{least_size};
 ghost use Rattle.inc_md.specs.Record.{head_of, is_size, place_tests, head_tests, map_fields, sig_fields, status_fields};
 
+use crate::kinds::{
+    COUNTS_SIZE, HEAD_SIZE, MAP_FIELDS, MAP_KIND, MAP_RECORD_SIZE, MOST_RECORDS, SIGNATURE_FIELDS,
+    SIGNATURE_KIND, SIGNATURE_RECORD_SIZE, STATUS_KIND, STATUS_RECORD_SIZE,
+};
 use crate::{ChainFault, MapRecord, SigRecord, StatusRecord};
 use inc_bytes::{u16_at, u32_at, u64_at};
-
-/// What every record begins with.
-pub const HEAD_SIZE: usize = 23;
-
-/// The types of records that are looked at.
-pub const MAP: u8 = 1;
-
-pub const SIGNATURE: u8 = 3;
-
-pub const STATUS: u8 = 4;
-
-/// The whole sizes of these records.
-const MAP_SIZE: u16 = 35;
-
-const SIGNATURE_SIZE: u16 = 47;
-
-const STATUS_SIZE: u16 = 55;
-
-/// The most records of a chain.
-const MOST_RECORDS: usize = 1024;
 
 /// What the first bytes of a record say.
 #[derive(Clone, Copy)]
@@ -37,7 +21,7 @@ pub struct Head {
 
 #[tactic(auto, unfolding(crate::specs::Record::head_of))]
 pub fn head_in(b: &[u8]) -> Head
-    requires { 23 ≤ length b.now }
+    requires { HEAD_SIZE ≤ length b.now }
     ensures value { result ≡ head_of b.now 0 }
 {
     Head {
@@ -48,7 +32,7 @@ pub fn head_in(b: &[u8]) -> Head
 }
 
 pub fn map_in(b: &[u8]) -> MapRecord
-    requires { 12 ≤ length b.now }
+    requires { MAP_FIELDS ≤ length b.now }
     ensures value { result ≡ map_fields b.now 0 }
 {
     MapRecord {
@@ -58,7 +42,7 @@ pub fn map_in(b: &[u8]) -> MapRecord
 }
 
 pub fn signature_in(b: &[u8]) -> SigRecord
-    requires { 24 ≤ length b.now }
+    requires { SIGNATURE_FIELDS ≤ length b.now }
     ensures value { result ≡ sig_fields b.now 0 }
 {
     SigRecord {
@@ -71,7 +55,7 @@ pub fn signature_in(b: &[u8]) -> SigRecord
 
 /// The numbers of a status record whose place is `at`.
 pub fn status_in(b: &[u8], at: u64) -> StatusRecord
-    requires { 8 ≤ length b.now }
+    requires { COUNTS_SIZE ≤ length b.now }
     ensures value { result ≡ record (status_fields b.now 0) { at = at } }
 {
     StatusRecord {
@@ -84,8 +68,8 @@ pub fn status_in(b: &[u8], at: u64) -> StatusRecord
 /// Whether another record may stand here.
 pub fn check_place(before: usize, len: u64, at: u64) -> Result<(), ChainFault>
     ensures value { result ≡ judge (first_failing (place_tests before len at)) tt }
-    ensures few { OnOk result (before < 1024) }
-    ensures inside { OnOk result (at + 23 ≤ len) }
+    ensures few { OnOk result (before < MOST_RECORDS) }
+    ensures inside { OnOk result (at + HEAD_SIZE ≤ len) }
     ensures judged { result ≢ Err ChainFault.ReadFault }
 {
     if before >= MOST_RECORDS {
@@ -108,9 +92,9 @@ fn has_good_size(head: &Head) -> bool
     ensures { result ≡ is_size head.now.kind head.now.size }
 {
     match head.kind {
-        MAP => head.size == MAP_SIZE,
-        SIGNATURE => head.size == SIGNATURE_SIZE,
-        STATUS => head.size == STATUS_SIZE,
+        MAP_KIND => head.size == MAP_RECORD_SIZE,
+        SIGNATURE_KIND => head.size == SIGNATURE_RECORD_SIZE,
+        STATUS_KIND => head.size == STATUS_RECORD_SIZE,
         _ => head.size as usize >= HEAD_SIZE,
     }
 }
@@ -142,11 +126,11 @@ pub fn check_head(
     if !fits_in(at, head.size as u64, len) {
         return Err(ChainFault::Outside { at });
     }
-    let second_map = mapped & (head.kind == MAP);
+    let second_map = mapped & (head.kind == MAP_KIND);
     if second_map {
         return Err(ChainFault::TwoMaps { at });
     }
-    let second_signature = signed & (head.kind == SIGNATURE);
+    let second_signature = signed & (head.kind == SIGNATURE_KIND);
     if second_signature {
         return Err(ChainFault::TwoSignatures { at });
     }

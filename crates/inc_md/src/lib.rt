@@ -6,11 +6,16 @@
 
 mod fault;
 mod head;
+mod kinds;
 mod laws;
 mod records;
 mod walking;
 
 pub use fault::ChainFault;
+pub use kinds::{
+    HEAD_SIZE, MAP_KIND, MAP_RECORD_SIZE, MOST_RECORDS, SIGNATURE_KIND, SIGNATURE_RECORD_SIZE,
+    STATUS_KIND, STATUS_RECORD_SIZE,
+};
 pub use laws::chain_stays;
 pub use records::{MapRecord, Records, SigRecord, StatusRecord};
 pub use walking::walk;

@@ -5,21 +5,21 @@ use Rattle.std.proofs.Common.{◌≡◌, ℕ, zero, suc, ◌-◌, true, false, L
 use Rattle.inc_pending.specs.Times.{default_times}
 use Rattle.inc_pending.specs.declared.reads.ReadRow.{ReadRow}
 use Rattle.inc_pending.specs.declared.timeouts.Times.{Times}
-use Rattle.inc_model.specs.declared.event.Event.TheVariants.{Ask, Poll, Claim, PutData, PutPlace, Settle, Gate, Release, TakePending, SetTimes, Ranges, Count, Leave}
-use Rattle.inc_model.specs.declared.event.Window.{Window}
-use Rattle.inc_model.specs.declared.file_state.FileState.{FileState}
-use Rattle.inc_model.specs.declared.file_state.FlightRow.{FlightRow}
-use Rattle.inc_model.specs.declared.file_state.Stage.{Stage}
-use Rattle.inc_model.specs.declared.file_state.Stage.TheVariants.{Written as written_stage, Placed as placed_stage, Settled as settled_stage, Gated as gated_stage}
-use Rattle.inc_model.specs.declared.limits.TheConstants.{MOST_ENTRIES}
-use Rattle.inc_model.specs.declared.reply.Reply.TheVariants.{OutOfRange, Asked, Stranger, NoPath, Handed, TimedOut, NotYet, Fault, Claimed, Busy, Present, Put, Settled, Gated, Released, Taken, TimesFull, TimesSet, BadRange, Filled, Counted, Left}
+use Rattle.inc_model.specs.declared.words.event.Event.TheVariants.{Ask, Poll, Claim, PutData, PutPlace, Settle, Gate, Release, TakePending, SetTimes, Ranges, Count, Leave}
+use Rattle.inc_model.specs.declared.words.event.Window.{Window}
+use Rattle.inc_model.specs.declared.words.file_state.FileState.{FileState}
+use Rattle.inc_model.specs.declared.words.file_state.FlightRow.{FlightRow}
+use Rattle.inc_model.specs.declared.words.file_state.Stage.{Stage}
+use Rattle.inc_model.specs.declared.words.file_state.Stage.TheVariants.{Written as written_stage, Placed as placed_stage, Settled as settled_stage, Gated as gated_stage}
+use Rattle.inc_model.specs.declared.words.limits.TheConstants.{MOST_ENTRIES}
+use Rattle.inc_model.specs.declared.words.reply.Reply.TheVariants.{OutOfRange, Asked, Stranger, NoPath, Handed, TimedOut, NotYet, Fault, Claimed, Busy, Present, Put, Settled, Gated, Released, Taken, TimesFull, TimesSet, BadRange, Filled, Counted, Left}
 use Rattle.inc_tree.specs.Geometry.{levels, level_counts}
 use Rattle.inc_ranges.specs.Runs.{runs_from}
-use Rattle.inc_model.specs.Polling.{absent_hash, absent_from}
-use Rattle.inc_model.specs.Table.{reply_of, presence}
-use Rattle.inc_model.specs.Changes.{change}
-use Rattle.inc_model.specs.Step.{IsAllowed, Step}
-use Rattle.inc_model.specs.Facts.{MoreFacts}
+use Rattle.inc_model.specs.relation.Polling.{absent_hash, absent_from}
+use Rattle.inc_model.specs.relation.Table.{reply_of, presence}
+use Rattle.inc_model.specs.relation.Changes.{change}
+use Rattle.inc_model.specs.relation.Step.{IsAllowed, Step}
+use Rattle.inc_model.specs.relation.Facts.{MoreFacts}
 
 abbrev file : FileState
 file = record {

@@ -1,6 +1,7 @@
 -- Each event keeps the facts of a file.
 pub mod Core
 pub mod Fill
+pub mod Flying
 pub mod Gate
 pub mod Groups
 pub mod Reads

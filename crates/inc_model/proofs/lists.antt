@@ -1,4 +1,5 @@
 -- Lists by rising keys, and what is found in them.
+pub mod Acknowledged
 pub mod Claims
 pub mod Finds
 pub mod Flight
@@ -7,4 +8,6 @@ pub mod Members
 pub mod Presence
 pub mod Rising
 pub mod RowSlots
+pub mod Searched
 pub mod Sets
+pub mod SlotLists

@@ -1,4 +1,5 @@
 -- Histories, and runs with crashes.
+pub mod Cores
 pub mod Histories
 pub mod Openings
 pub mod OtherRows

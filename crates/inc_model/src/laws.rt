@@ -1,12 +1,13 @@
 // What holds of every legal history and of every run with crashes, as contracts of functions that do nothing.
-ghost use Rattle.inc_model.specs.StageLaws.{AdvancesByStages, LeavesFlightOnly, SettlesAll, MapStays, AcknowledgesOnlySynced, OpensOnlyByGate, BeginsOnlyByGate, GateBegins, FaultsAreSeen, FaultsStay, FailsForGood, ReadsStay};
-ghost use Rattle.inc_model.specs.FaultLaws.{FailedIsFirst, FirstIsFailed, NoneHasFailed, PollLeavesFailed, FaultsAreCounted};
-ghost use Rattle.inc_model.specs.OthersLaws.{OthersKeepReads, OthersKeepPlaces, OthersKeepRows, OwnPutIsPlaced};
-ghost use Rattle.inc_model.specs.Openings.{OpenedListsMakeOpenings, AcknowledgedAreLookedUp, OpenedAreAcknowledged, SameIndicesAreEqual, SameRowsAreEqual, ReopensByLists};
-ghost use Rattle.inc_model.specs.Worlds.{HistoryIsWorld, WorldIsHistory, WorldEndsAsHistory};
-ghost use Rattle.inc_model.specs.ReadLaws.{ReadsComeFrom, ReadsWereAsked};
-ghost use Rattle.inc_model.specs.HistoryLaws.{OpeningHasFacts, StepKeepsFacts, StepKeepsMore, LegalHasFacts, FrontIsLegal, RestIsLegal, BothAreLegal, StateAfterBoth, StateAfterOneMore, EntryAtPosition, StaysWithinLimit, ClaimedHasRoom, ClaimsAreCounted, ClaimsOfOthersStay, WindowsAreOwn, OwnEntriesJoin, OthersKeepOwn};
-ghost use Rattle.inc_model.specs.WorldLaws.{TimesOutWhereAbsent, WaitsWhereAbsent, WaitsBeforeFloor, NamesLowestAbsent, HandsOutPresent, LacksNoPathWithoutTree, KeepsAcknowledged, AcknowledgedIsThere, TimesOutAbsent, HandsOutThere, NamesAbsent, GateCompletes, DigestsComeFrom, PresenceIsWhole, PresenceIsOfMap};
+ghost use Rattle.inc_model.specs.laws.StageLaws.{AdvancesByStages, LeavesFlightOnly, SettlesAll, MapStays, AcknowledgesOnlySynced, OpensOnlyByGate, BeginsOnlyByGate, GateBegins, FaultsAreSeen, FaultsStay, FailsForGood, ReadsStay};
+ghost use Rattle.inc_model.specs.laws.FaultLaws.{FailedIsFirst, FirstIsFailed, NoneHasFailed, PollLeavesFailed, FaultsAreCounted};
+ghost use Rattle.inc_model.specs.laws.OthersLaws.{OthersKeepReads, OthersKeepPlaces, OthersKeepRows, OwnPutIsPlaced};
+ghost use Rattle.inc_model.specs.relation.Openings.{OpenedListsMakeOpenings, AcknowledgedAreLookedUp, OpenedAreAcknowledged, SameIndicesAreEqual, SameRowsAreEqual, ReopensByLists};
+ghost use Rattle.inc_model.specs.histories.Worlds.{HistoryIsWorld, WorldIsHistory, WorldEndsAsHistory};
+ghost use Rattle.inc_model.specs.laws.ReadLaws.{ReadsComeFrom, ReadsWereAsked};
+ghost use Rattle.inc_model.specs.laws.HistoryLaws.{OpeningHasFacts, StepKeepsFacts, StepKeepsMore, LegalHasFacts, FrontIsLegal, RestIsLegal, BothAreLegal, StateAfterBoth, StateAfterOneMore, EntryAtPosition, StaysWithinLimit, ClaimedHasRoom, ClaimsAreCounted, ClaimsOfOthersStay, WindowsAreOwn, OwnEntriesJoin, OthersKeepOwn};
+ghost use Rattle.inc_model.specs.laws.CoreLaws.{OpeningIsStart, StartIsHeld, StepStaysHeld, LegalStaysHeld, HeldIsWorkable, HeldSerialsFit, EntriesTakePlaces, GatesBeginAlone};
+ghost use Rattle.inc_model.specs.laws.WorldLaws.{TimesOutWhereAbsent, WaitsWhereAbsent, WaitsBeforeFloor, NamesLowestAbsent, HandsOutPresent, LacksNoPathWithoutTree, KeepsAcknowledged, AcknowledgedIsThere, TimesOutAbsent, HandsOutThere, NamesAbsent, GateCompletes, DigestsComeFrom, PresenceIsWhole, PresenceIsOfMap};
 
 /// An opening has the facts, and each step keeps them. So each state that a legal history reaches has them.
 pub fn facts_stay()
@@ -126,4 +127,16 @@ pub fn reads_stay()
 pub fn ranges_tell_the_map()
     ensures whole { PresenceIsWhole }
     ensures each { PresenceIsOfMap }
+{}
+
+/// What an executed core asks of its state holds along every legal history, over rows and over slots.
+pub fn cores_are_held()
+    ensures opening { OpeningIsStart }
+    ensures start { StartIsHeld }
+    ensures step { StepStaysHeld }
+    ensures legal { LegalStaysHeld }
+    ensures workable { HeldIsWorkable }
+    ensures serials { HeldSerialsFit }
+    ensures places { EntriesTakePlaces }
+    ensures alone { GatesBeginAlone }
 {}

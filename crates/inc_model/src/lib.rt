@@ -5,58 +5,40 @@
 //! a thread or a clock: those bring their counts of faults, their order and their numbers in as arguments of events and replies.
 #![tactic(auto)]
 
-// The words of the relation.
-mod event;
-mod file_state;
-mod limits;
-mod outcomes;
-mod reply;
-mod rows;
-
-// What holds of every history.
+// The words of the relation, and what holds of every history.
 mod laws;
-mod machine;
+mod words;
 
-// The lists of a state.
-mod claims;
-mod flight;
-mod indices;
-mod keyed;
-
-// The executed relation.
-mod copies;
+// The executed relation, over what is known of each index.
 mod file_core;
-mod legality;
-mod reply_table;
-mod state_changes;
+mod indices;
+mod state_lists;
 
-// A file without a device, and runs of histories.
-mod history_run;
-#[cfg(test)]
-mod history_tests;
-mod pure_file;
-#[cfg(test)]
-mod tests;
-mod world;
+// A file without a device, and runs.
+mod histories;
 
-pub use event::{Event, Window};
-pub use file_state::{FileState, FlightRow, Stage};
-pub use inc_bytes::Id;
+pub use file_core::FileCore;
+pub use histories::pure_file::{PureFault, PureFile};
+pub use histories::world::{Round, World, WorldEnd, fresh_file};
+pub use inc_bytes::{Id, Rows};
 pub use inc_pending::{ReadRow, RecordList, Times};
 pub use inc_ranges::RangeList;
 pub use inc_tree::Digest32;
+pub use indices::Indices;
+pub use indices::index_rows::IndexRows;
+pub use indices::slots::Slots;
 pub use laws::{
-    entries_are_owned, facts_stay, faults_are_told, fills_go_by_stages, histories_are_worlds,
-    histories_join, histories_stay_small, openings_are_lists, others_keep_own, polls_go_by_the_map,
-    ranges_tell_the_map, reads_stay, reads_were_asked, worlds_keep,
+    cores_are_held, entries_are_owned, facts_stay, faults_are_told, fills_go_by_stages,
+    histories_are_worlds, histories_join, histories_stay_small, openings_are_lists,
+    others_keep_own, polls_go_by_the_map, ranges_tell_the_map, reads_stay, reads_were_asked,
+    worlds_keep,
 };
-pub use limits::{FIRST_SERIALS, MOST_BLOCKS, MOST_DATA_BLOCKS, MOST_ENTRIES};
-pub use machine::Machine;
-pub use outcomes::{FillError, Found, Outcome, ReadError};
-pub use pure_file::{PureFault, PureFile};
-pub use reply::{Entry, Reply};
-pub use rows::Rows;
-pub use world::{Round, World, WorldEnd, fresh_file};
+pub use words::event::{Event, Window};
+pub use words::file_state::{FileState, FlightRow, Stage};
+pub use words::limits::{FIRST_SERIALS, MOST_BLOCKS, MOST_DATA_BLOCKS, MOST_ENTRIES};
+pub use words::machine::Machine;
+pub use words::outcomes::{FillError, Found, Outcome, ReadError};
+pub use words::reply::{Entry, Reply};
 
 /// The one answer that no clause ties to a cause: the allocator refused.
 pub type OutOfMemory = std::alloc::AllocError;

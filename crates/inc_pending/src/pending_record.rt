@@ -1,10 +1,7 @@
-ghost use Rattle.std.specs.Prelude.{◌≡◌, ℕ, List, ◌++◌, take, replicate, IfOk};
+ghost use Rattle.std.specs.Prelude.{◌≡◌, ℕ, List, ◌++◌, take, replicate};
 ghost use Rattle.inc_pending.specs.Record.{record_bytes, record_in, record_bytes2, record_in2};
 
-use crate::OutOfMemory;
-use inc_bytes::{Id, get_u32, get_u64, put_u32, put_u64};
-use std::alloc::Global;
-use std::marker::Model;
+use inc_bytes::{Id, Rows, get_u32, get_u64, put_u32, put_u64};
 
 /// A read that waits, as the public interface tells it: the file's id, when it was asked in microseconds,
 /// its block's index and its serial, in 32 bytes, and in 40 bytes with the user who asked.
@@ -80,48 +77,5 @@ impl PendingRecord {
     }
 }
 
-/// Pending records that own their memory.
-#[derive(Drop)]
-pub struct RecordList {
-    items: Vec<PendingRecord>,
-}
-
-impl Model for RecordList {
-    ghost use Rattle.std.specs.Prelude.{List};
-    ghost use Rattle.inc_pending.specs.declared.pending_record.PendingRecord.{PendingRecord};
-
-    ghost Value = { List PendingRecord };
-
-    ghost view = { λ r. r.items.items };
-}
-
-impl RecordList {
-    /// A copy of these records.
-    pub fn of(alloc: Global, records: &[PendingRecord]) -> Result<RecordList, OutOfMemory>
-        ensures value { IfOk result (λ copy. copy ≡ records.now) }
-    {
-        Ok(RecordList {
-            items: records.to_vec(alloc)?,
-        })
-    }
-
-    /// The vector's records. It takes no memory.
-    pub fn from_vec(items: Vec<PendingRecord>) -> RecordList
-        ensures value { result ≡ items.items }
-    {
-        RecordList { items }
-    }
-
-    /// Gives the records back as a vector.
-    pub fn into_vec(self) -> Vec<PendingRecord>
-        ensures value { result.items ≡ self }
-    {
-        self.items
-    }
-
-    pub fn as_slice(&self) -> &[PendingRecord]
-        ensures value { result.now ≡ self.now }
-    {
-        self.items.as_slice()
-    }
-}
+/// A list of pending records.
+pub type RecordList = Rows<PendingRecord>;

@@ -1,10 +1,11 @@
-//! The real outside: the current folder, its files as disks, the standard streams and the clock.
+//! The real outside: the current folder, its files as disks, the standard streams, the clock and the bell.
 //!
 //! This is the trusted edge. Each object is a few lines around std's call, meets its trait, and tells nothing of what it holds but how
 //! often it has failed; a source also whether its input has ended. What a file system or a drive does with what it is given no clause
 //! here can say.
 #![tactic(auto)]
 
+mod bell;
 mod clock;
 mod disk;
 mod file;
@@ -12,6 +13,7 @@ mod folder;
 mod sink;
 mod source;
 
+pub use bell::RealBell;
 pub use clock::RealClock;
 pub use disk::RealDisk;
 pub use file::{FileCall, PlacedFile};

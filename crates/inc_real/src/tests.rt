@@ -1,8 +1,8 @@
 ghost use Rattle.std.specs.Prelude.{◌≡◌, Some};
 
-use crate::{FileCall, FolderShelf, PlacedFile, RealDisk};
+use crate::{FileCall, FolderShelf, PlacedFile, RealBell, RealDisk};
 use inc_disk::{Disk, Shelf};
-use inc_io::{Backing, Bytes, Failed, LendFault, Name, ReadShelf};
+use inc_io::{Backing, Bell, Bytes, Failed, LendFault, Name, ReadShelf};
 use std::alloc::Global;
 use std::fs::File;
 use std::io::ErrorKind;
@@ -189,5 +189,16 @@ fn a_file_has_one_writer_at_a_time(rt: HostRuntime) -> Result<(), Fail> {
     second.close_disk(&name, disk);
     assert!(rt; refused);
     fs::remove_file(&rt, name.as_str())?;
+    Ok(())
+}
+
+#[test]
+fn nobody_rests_past_a_ring_or_past_the_time(rt: HostRuntime) -> Result<(), Fail> {
+    let bell = RealBell::new(&rt);
+    let seen = bell.seen();
+    bell.rest(seen, 0);
+    bell.ring();
+    bell.rest(seen, u64::MAX);
+    assert_eq!(rt; bell.seen(), 1);
     Ok(())
 }

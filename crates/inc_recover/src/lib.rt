@@ -16,8 +16,3 @@ pub use inc_layout::Mounted;
 pub use laws::opened_files_can_be_filled;
 pub use making::make_file;
 pub use mounting::mount_file;
-
-#[cfg(test)]
-mod mounting_tests;
-#[cfg(test)]
-mod tests;

@@ -93,7 +93,8 @@ pub fn make_unsigned<S: Shelf>(
             create(alloc, name, &tree, &image, shelf)
         }
         Err(FreshFault::TooLarge) => refuse(alloc, name, too_large()),
-        Err(_) => Err(Stop::OutOfMemory),
+        Err(FreshFault::OutOfMemory) => Err(Stop::OutOfMemory),
+        Err(FreshFault::Signature(_)) => unreachable!(),
     }
 }
 

@@ -27,7 +27,9 @@ pub fn read_blob<I: Source>(alloc: Global, input: &mut I) -> Result<Vec<u8>, Sto
 fn room(alloc: Global) -> Result<Vec<u8>, OutOfMemory>
     ensures length { IfOk result (λ room. length room.items ≡ most_taken) }
 {
-    vec![in alloc; 0; MOST]
+    let mut room = Vec::with_capacity(alloc, MOST)?;
+    room.resize(MOST, 0)?;
+    Ok(room)
 }
 
 /// Fills the room with the next bytes, as far as there are any, and says how many these are.

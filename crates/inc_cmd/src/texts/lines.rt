@@ -111,5 +111,7 @@ fn made_counts(
 ) -> Result<Vec<u8>, OutOfMemory>
     ensures value { IfOk result (λ counts. counts.items ≡ made_counts data_count hash_count len) }
 {
-    Ok(format!(in alloc; " data {data_count} hash {hash_count} length {len}")?.into_bytes())
+    let mut counts = format!(in alloc; " data {data_count} hash {hash_count}")?.into_bytes();
+    counts.extend_from_slice(format!(in alloc; " length {len}")?.as_bytes())?;
+    Ok(counts)
 }

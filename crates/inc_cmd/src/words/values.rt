@@ -1,7 +1,7 @@
 // The values that a word may be.
 ghost use Rattle.std.specs.Prelude.{◌≡◌, ◌-◌, ◌^◌};
 ghost use Rattle.std.specs.Str.{all_ascii_digits};
-ghost use Rattle.inc_cmd.specs.Words.{id_word, is_number, number_of, root_of};
+ghost use Rattle.inc_cmd.specs.Words.{id_word, is_number, number_of, given_root};
 
 use inc_bytes::Id;
 use inc_tree::Digest32;
@@ -19,8 +19,8 @@ pub fn id_of(word: &str) -> Option<Id>
 }
 
 /// The root that 64 hex digits spell.
-pub fn root_of(word: &str) -> Option<Digest32>
-    ensures value { result ≡ root_of word.now }
+pub fn given_root(word: &str) -> Option<Digest32>
+    ensures value { result ≡ given_root word.now }
 {
     let mut root = [0; 32];
     match hex::decode_to_slice(word, &mut root) {

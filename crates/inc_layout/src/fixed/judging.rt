@@ -1,9 +1,8 @@
-ghost use Rattle.std.specs.Prelude.{◌≡◌, ◌≢◌, ◌+◌, ◌≤◌, Ok, Err, IfOk, IfErr, OnErr, OnOk, nat_le};
+ghost use Rattle.std.specs.Prelude.{◌≡◌, ◌≢◌, Ok, Err, IfOk, IfErr};
 ghost use Rattle.inc_bytes.specs.Tests.{first_failing, judge};
 ghost use Rattle.inc_entry.specs.Entry.{area_places, areas_of};
 ghost use Rattle.inc_entry.specs.Spans.{are_apart, is_inside};
 ghost use Rattle.inc_layout.specs.Fixed.{area_tests, blob_span, blob_span_tests, plain_of};
-ghost use Rattle.inc_layout.specs.Opening.{AreRecordsInside};
 ghost use Rattle.inc_layout.specs.declared.fault.LayoutFault.TheVariants.{ReadFault as read_fault};
 
 use super::{Front, PlainFront};
@@ -11,14 +10,9 @@ use crate::LayoutFault;
 use inc_bytes::Span;
 use inc_entry::{Areas, is_clear};
 use inc_header::HeaderKind;
-use inc_md::{ChainFault, Records, SigRecord};
+use inc_md::SigRecord;
 use inc_signature::{MOST_BLOB, SigFault};
 use inc_tree::{BLOCK_SIZE, Geometry};
-
-/// The bytes of a record's head, and of the two counts of a status record.
-const HEAD_SIZE: u64 = 23;
-
-const COUNTS_SIZE: u64 = 8;
 
 /// Takes the front of a plain file that isn't too large.
 #[tactic(auto, unfolding(crate::specs::Fixed::plain_of))]
@@ -45,33 +39,6 @@ pub fn plain_front(front: Front) -> Result<PlainFront, LayoutFault>
         tree,
         flat,
     })
-}
-
-/// Refuses records that reach past the file's end. Where a file tells its bytes, the walk along its chain has done so already; where it
-/// tells nothing, the walk says nothing of what it found.
-pub fn check_inside(records: &Records, len: u64) -> Result<(), LayoutFault>
-    ensures inside { OnOk result (AreRecordsInside len records.now) }
-    ensures outside { OnErr result (AreRecordsInside len records.now → ⊥) }
-    ensures judged { result ≢ Err read_fault }
-{
-    if let Some(status) = records.status {
-        if !ends_by(status.at, COUNTS_SIZE, len) {
-            return Err(LayoutFault::Chain(ChainFault::Outside { at: status.at }));
-        }
-    }
-    if records.spans.len() > 0 {
-        if !ends_by(records.last, HEAD_SIZE, len) {
-            return Err(LayoutFault::Chain(ChainFault::Outside { at: records.last }));
-        }
-    }
-    Ok(())
-}
-
-/// Whether so many bytes from a place on end inside a file.
-fn ends_by(at: u64, count: u64, len: u64) -> bool
-    ensures value { result ≡ nat_le (at + count) len }
-{
-    count <= len && at <= len - count
 }
 
 /// Whether a span ends inside a file. An empty one does everywhere.

@@ -1,7 +1,7 @@
 ghost use Rattle.std.specs.Prelude.{◌≡◌, ◌≢◌, ◌++◌, ◌∷◌, [], is_some, if◌then◌else◌, IfOk, Ok, Err};
 ghost use Rattle.inc_entry.specs.Entry.{areas_of, area_places};
+ghost use Rattle.inc_md.specs.Inside.{AreRecordsInside};
 ghost use Rattle.inc_layout.specs.Fixed.{blob_span, blob_spans, hash_base, hash_size, header_span, map_base, map_count, places_in, shape_for, with_sig};
-ghost use Rattle.inc_layout.specs.Opening.{AreRecordsInside};
 ghost use Rattle.inc_layout.specs.Told.{GivesFixed, IsPlaced};
 ghost use Rattle.inc_layout.specs.declared.fault.LayoutFault.TheVariants.{ReadFault as read_fault};
 

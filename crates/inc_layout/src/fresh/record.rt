@@ -3,6 +3,10 @@ ghost use Rattle.inc_bytes.specs.Fields.{le_bytes};
 ghost use Rattle.inc_layout.specs.Fresh.{map_record, record_head, signature_record, status_record};
 
 use crate::OutOfMemory;
+use inc_md::{
+    MAP_KIND, MAP_RECORD_SIZE, SIGNATURE_KIND, SIGNATURE_RECORD_SIZE, STATUS_KIND,
+    STATUS_RECORD_SIZE,
+};
 
 /// The places of a fresh file's records, and of what comes behind them.
 pub const FIRST_RECORD: u64 = 56;
@@ -15,19 +19,6 @@ pub const BLOB: u64 = 193;
 
 /// The place of an unsigned file's map, behind its two records.
 pub const UNSIGNED_MAP: u64 = 146;
-
-/// The types and sizes of the records.
-const MAP: u8 = 1;
-
-const MAP_SIZE: u16 = 35;
-
-const SIGNATURE: u8 = 3;
-
-const SIGNATURE_SIZE: u16 = 47;
-
-const STATUS: u8 = 4;
-
-const STATUS_SIZE: u16 = 55;
 
 /// Appends a number of two bytes.
 #[tactic(auto, using(inc_bytes::proofs::Numbers::le_bytes_2))]
@@ -68,7 +59,7 @@ fn push_head(image: &mut Vec<u8>, kind: u8, size: u16, next: u64) -> Result<(), 
 pub fn push_map(image: &mut Vec<u8>, base: u64, count: u32) -> Result<(), OutOfMemory>
     ensures value { OnOk result (image.new.items ≡ image.old.items ++ map_record base count) }
 {
-    push_head(image, MAP, MAP_SIZE, SECOND_RECORD)?;
+    push_head(image, MAP_KIND, MAP_RECORD_SIZE, SECOND_RECORD)?;
     push_u64(image, base)?;
     Ok(push_u32(image, count)?)
 }
@@ -82,7 +73,7 @@ pub fn push_signature(
 ) -> Result<(), OutOfMemory>
     ensures value { OnOk result (image.new.items ≡ image.old.items ++ signature_record blob_size tree_size tree_at) }
 {
-    push_head(image, SIGNATURE, SIGNATURE_SIZE, THIRD_RECORD)?;
+    push_head(image, SIGNATURE_KIND, SIGNATURE_RECORD_SIZE, THIRD_RECORD)?;
     push_u32(image, blob_size)?;
     push_u64(image, BLOB)?;
     push_u32(image, tree_size)?;
@@ -93,6 +84,6 @@ pub fn push_signature(
 pub fn push_status(image: &mut Vec<u8>) -> Result<(), OutOfMemory>
     ensures value { OnOk result (image.new.items ≡ image.old.items ++ status_record) }
 {
-    push_head(image, STATUS, STATUS_SIZE, 0)?;
+    push_head(image, STATUS_KIND, STATUS_RECORD_SIZE, 0)?;
     Ok(image.extend_from_slice(&[0; 32])?)
 }

@@ -4,30 +4,30 @@ use Rattle.std.specs.Prelude.{All, AllPairs, count_by}
 use Rattle.std.proofs.lemmas.List.{length-append}
 use Rattle.std.proofs.lemmas.List.Elements.{All-head, All-tail}
 use Rattle.inc_tree.specs.Geometry.{shape_of}
-use Rattle.inc_model.specs.declared.limits.TheConstants.{MOST_BLOCKS}
+use Rattle.inc_model.specs.declared.words.limits.TheConstants.{MOST_BLOCKS}
 use Rattle.inc_tree.proofs.LevelLemmas.{hash_small}
 use Rattle.inc_pending.specs.Polling.{read_of, decision_of, waits_on}
 use Rattle.inc_pending.specs.Keyed.{lookup}
 use Rattle.inc_pending.specs.declared.reads.ReadRow.{ReadRow}
 use Rattle.inc_pending.specs.declared.reads.Decision.{Decision}
 use Rattle.inc_pending.specs.declared.reads.Decision.TheVariants.{Stranger as no_read, Hand, TimedOut as late, NotYet as waits}
-use Rattle.inc_model.specs.declared.event.Event.{Event}
-use Rattle.inc_model.specs.declared.event.Event.TheVariants.{Ask, Poll, Cancel, Claim, PutData, PutPlace, Settle, Gate, Release, TakePending, SetTimes, Ranges, Count, Leave}
-use Rattle.inc_model.specs.declared.file_state.FileState.{FileState}
-use Rattle.inc_model.specs.declared.file_state.FlightRow.{FlightRow}
-use Rattle.inc_model.specs.declared.reply.Entry.{Entry}
-use Rattle.inc_model.specs.declared.reply.Reply.{Reply}
-use Rattle.inc_model.specs.declared.reply.Reply.TheVariants.{Handed, NotYet, Fault, Put, BadRange}
-use Rattle.inc_model.specs.State.{is_in, has, flight_row}
-use Rattle.inc_model.specs.Polling.{absent_hash, hand_reply, decided_reply}
-use Rattle.inc_model.specs.Stages.{is_at, is_written, is_settled}
-use Rattle.inc_model.specs.Table.{ask_reply, cancel_reply, unless_failed, flight_reply, put_reply, place_reply, gate_reply, times_reply, presence, filled_reply, ranges_reply, reply_of}
-use Rattle.inc_model.specs.Changes.{window_of, change}
-use Rattle.inc_model.specs.Step.{Fits, IsOwn, HasRoom, IsAllowed, IsKept, IsEntry, after_entry, state_after}
-use Rattle.inc_model.specs.Facts.{IsStart}
-use Rattle.inc_model.specs.CoreFacts.{IsHeld}
-use Rattle.inc_model.specs.PureStep.{IsWithoutDevice, entry_left, Replies}
-use Rattle.inc_model.specs.PureState.{Pure, IsPure}
+use Rattle.inc_model.specs.declared.words.event.Event.{Event}
+use Rattle.inc_model.specs.declared.words.event.Event.TheVariants.{Ask, Poll, Cancel, Claim, PutData, PutPlace, Settle, Gate, Release, TakePending, SetTimes, Ranges, Count, Leave}
+use Rattle.inc_model.specs.declared.words.file_state.FileState.{FileState}
+use Rattle.inc_model.specs.declared.words.file_state.FlightRow.{FlightRow}
+use Rattle.inc_model.specs.declared.words.reply.Entry.{Entry}
+use Rattle.inc_model.specs.declared.words.reply.Reply.{Reply}
+use Rattle.inc_model.specs.declared.words.reply.Reply.TheVariants.{Handed, NotYet, Fault, Put, BadRange}
+use Rattle.inc_model.specs.relation.State.{is_in, has, flight_row}
+use Rattle.inc_model.specs.relation.Polling.{absent_hash, hand_reply, decided_reply}
+use Rattle.inc_model.specs.relation.Stages.{is_at, is_written, is_settled}
+use Rattle.inc_model.specs.relation.Table.{ask_reply, cancel_reply, unless_failed, flight_reply, put_reply, place_reply, gate_reply, times_reply, presence, filled_reply, ranges_reply, reply_of}
+use Rattle.inc_model.specs.relation.Changes.{window_of, change}
+use Rattle.inc_model.specs.relation.Step.{Fits, IsOwn, HasRoom, needs, IsAllowed, IsKept, IsEntry, after_entry, state_after}
+use Rattle.inc_model.specs.relation.Facts.{IsStart}
+use Rattle.inc_model.specs.executed.CoreFacts.{IsHeld}
+use Rattle.inc_model.specs.histories.PureStep.{IsWithoutDevice, entry_left, Replies}
+use Rattle.inc_model.specs.histories.PureState.{Pure, IsPure}
 use Rattle.inc_model.proofs.facts_kept.Core.{held_after}
 use Rattle.inc_model.proofs.runs.Histories.{both_legal, after_one}
 use Rattle.inc_model.proofs.lists.Sets.{pairs_head, pairs_tail}
@@ -142,12 +142,14 @@ pure_more first now new history entry pure allowed kept is =
       held = subst (λ (s : FileState). IsHeld (length (history ++ entry ∷ [])) s) (sym is) (subst (λ k. IsHeld k (after_entry (length history) now entry)) (omega (arith, length-append history (entry ∷ []))) held);
     }
 
-pub pure_replies : (old new : Pure) (who : ℕ) (event : Event) (reply : Reply) → IsAllowed (length old.history) true old.now who event reply → IsKept reply → reply ≡ reply_of old.now who event → new.now ≡ change (length old.history) old.now who event reply → new.history ≡ old.history ++ record { who = who; event = event; reply = reply } ∷ [] → new.first ≡ old.first → Replies old who event reply new
-pure_replies old new who event reply allowed kept is now-is history-is first-is = record {
+pub pure_replies : (old new : Pure) (who : ℕ) (event : Event) (reply : Reply) → IsAllowed (length old.history) true old.now who event reply → IsKept reply → reply ≡ reply_of old.now who event → new.now ≡ change (length old.history) old.now who event reply → new.history ≡ old.history ++ record { who = who; event = event; reply = reply } ∷ [] → new.first ≡ old.first → (old.ready ≡ true → new.ready ≡ true) → (IsKept reply → 0 < needs old.now.claimed event → new.ready ≡ true) → Replies old who event reply new
+pure_replies old new who event reply allowed kept is now-is history-is first-is ready made = record {
   step = record { allowed = allowed; after = now-is };
   plain = subst IsWithoutDevice (sym is) (plain_own old.now who event);
   history = history-is ∙ ap (λ (l : List Entry). old.history ++ l) (sym (kept_entry who event reply kept));
   first = first-is;
+  ready = ready;
+  made = made;
 }
 
 -- ---- a state to begin from
@@ -182,4 +184,7 @@ start_pure s h = record { legal = tt; after = refl; held = held }
           serials = let le = h.serials in omega arith;
           there = omega arith;
           limit = omega arith;
+          damaged_rises = h.lists.damaged_rises;
+          compressed_rises = h.lists.compressed_rises;
+          flying = h.indices.flight_within;
         }

@@ -8,10 +8,10 @@ use Rattle.inc_pending.specs.Polling.{is_asked, read_of, decision, decision_of}
 use Rattle.std.proofs.lemmas.Bool.{lt-ltb, le-ltb, cases_lt}
 use Rattle.std.proofs.lemmas.List.{length-append}
 use Rattle.inc_ranges.specs.Runs.{runs_of, start_or}
-use Rattle.inc_model.specs.declared.reply.Reply.TheVariants.{BadRange, Filled}
-use Rattle.inc_model.specs.State.{Digests, is_in}
-use Rattle.inc_model.specs.Polling.{levels_over, hash_on_path, is_hash_there, absent_from, absent_hash}
-use Rattle.inc_model.specs.Table.{presence, ranges_reply}
+use Rattle.inc_model.specs.declared.words.reply.Reply.TheVariants.{BadRange, Filled}
+use Rattle.inc_model.specs.relation.State.{Digests, is_in}
+use Rattle.inc_model.specs.relation.Polling.{levels_over, hash_on_path, is_hash_there, absent_from, absent_hash}
+use Rattle.inc_model.specs.relation.Table.{presence, ranges_reply}
 
 -- ---- the path
 

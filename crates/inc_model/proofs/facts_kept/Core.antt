@@ -13,20 +13,21 @@ use Rattle.inc_pending.specs.Times.{times_of}
 use Rattle.inc_pending.specs.declared.reads.ReadRow.{ReadRow}
 use Rattle.inc_pending.specs.declared.timeouts.Times.{Times}
 use Rattle.inc_pending.proofs.TableLemmas.{rising-map}
-use Rattle.inc_model.specs.declared.event.Event.{Event}
-use Rattle.inc_model.specs.declared.limits.TheConstants.{FIRST_SERIALS, MOST_BLOCKS, MOST_DATA_BLOCKS, MOST_ENTRIES}
-use Rattle.inc_model.specs.declared.event.Event.TheVariants.{Ask, Poll, Cancel, Claim, PutData, PutPlace, Settle, Gate, Release, TakePending, SetTimes, Ranges, Count, Leave}
-use Rattle.inc_model.specs.declared.event.Window.{Window}
-use Rattle.inc_model.specs.declared.file_state.FileState.{FileState}
-use Rattle.inc_model.specs.declared.file_state.FlightRow.{FlightRow}
-use Rattle.inc_model.specs.declared.reply.Reply.{Reply}
-use Rattle.inc_model.specs.declared.reply.Reply.TheVariants.{Asked, NoPath, Handed, TimedOut, Fault, Cancelled, Put, Placed, Settled, Gated, TimesSet, Left}
-use Rattle.inc_model.specs.State.{Digests, is_in, has, flight_row, all_places}
-use Rattle.inc_model.specs.Table.{ask_reply, reply_of}
-use Rattle.inc_model.specs.Changes.{ask_change, poll_change, cancel_change, put_data_change, put_place_change, settle_change, gate_row_change, gate_change, times_change, leave_change, rest_change, change}
-use Rattle.inc_model.specs.Step.{Fits, IsAllowed}
-use Rattle.inc_model.specs.CoreFacts.{IsHeld, IsWorkable}
+use Rattle.inc_model.specs.declared.words.event.Event.{Event}
+use Rattle.inc_model.specs.declared.words.limits.TheConstants.{FIRST_SERIALS, MOST_BLOCKS, MOST_DATA_BLOCKS, MOST_ENTRIES}
+use Rattle.inc_model.specs.declared.words.event.Event.TheVariants.{Ask, Poll, Cancel, Claim, PutData, PutPlace, Settle, Gate, Release, TakePending, SetTimes, Ranges, Count, Leave}
+use Rattle.inc_model.specs.declared.words.event.Window.{Window}
+use Rattle.inc_model.specs.declared.words.file_state.FileState.{FileState}
+use Rattle.inc_model.specs.declared.words.file_state.FlightRow.{FlightRow}
+use Rattle.inc_model.specs.declared.words.reply.Reply.{Reply}
+use Rattle.inc_model.specs.declared.words.reply.Reply.TheVariants.{Asked, NoPath, Handed, TimedOut, Fault, Cancelled, Put, Placed, Settled, Gated, TimesSet, Left}
+use Rattle.inc_model.specs.relation.State.{Digests, is_in, has, flight_row, all_places}
+use Rattle.inc_model.specs.relation.Table.{ask_reply, reply_of}
+use Rattle.inc_model.specs.relation.Changes.{ask_change, poll_change, cancel_change, put_data_change, put_place_change, settle_change, gate_row_change, gate_change, times_change, leave_change, rest_change, change}
+use Rattle.inc_model.specs.relation.Step.{Fits, IsAllowed}
+use Rattle.inc_model.specs.executed.CoreFacts.{IsHeld, IsWorkable}
 use Rattle.inc_model.proofs.facts_kept.Step.{limit_stays}
+use Rattle.inc_model.proofs.facts_kept.Flying.{rest_flies}
 
 -- ---- the part that reads and gates change
 
@@ -198,6 +199,7 @@ rest_part told at s who Leave reply h part = leave_part at s reply part
 pub held_after : (told : Bool) (at : ℕ) (s : FileState) (who : ℕ) (event : Event) (reply : Reply) → IsAllowed at told s who event reply → IsHeld at s → IsHeld (at + 1) (change at s who event reply)
 held_after told at s who event reply allowed h =
     let part = rest_part told at s who event reply allowed.fits (part_of at s h) in
+    let bounded = rest_flies told at s who event reply allowed.fits (record { damaged_rises = h.damaged_rises; compressed_rises = h.compressed_rises; flying = h.flying }) in
     record {
       small = part.small;
       total = part.total;
@@ -208,6 +210,9 @@ held_after told at s who event reply allowed h =
       serials = part.serials;
       there = part.there;
       limit = limit_stays at s who event reply allowed.room;
+      damaged_rises = bounded.damaged_rises;
+      compressed_rises = bounded.compressed_rises;
+      flying = bounded.flying;
     }
 
 pub workable : (at : ℕ) (s : FileState) → IsHeld at s → IsWorkable s
@@ -221,6 +226,9 @@ workable at s h =
       waiting = let few = h.waiting in let serials = h.serials in omega arith;
       there = let few = h.there in omega arith;
       places = omega arith;
+      damaged_rises = h.damaged_rises;
+      compressed_rises = h.compressed_rises;
+      flying = h.flying;
     }
 
 pub serials_fit : (at : ℕ) (s : FileState) → IsHeld at s → s.next + 1 < 2 ^ 32

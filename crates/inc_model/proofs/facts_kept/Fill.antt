@@ -4,19 +4,19 @@ use Rattle.std.specs.Prelude.{is_some}
 use Rattle.std.proofs.lemmas.Bool.{leb-false, eqb-true, and_parts, false_from_ne_true, false≢true}
 use Rattle.std.proofs.lemmas.List.Elements.{All-map}
 use Rattle.inc_pending.specs.Keyed.{lookup}
-use Rattle.inc_model.specs.declared.event.Window.{Window}
-use Rattle.inc_model.specs.declared.file_state.FileState.{FileState}
-use Rattle.inc_model.specs.declared.file_state.FlightRow.{FlightRow}
-use Rattle.inc_model.specs.declared.file_state.Stage.{Stage}
-use Rattle.inc_model.specs.declared.file_state.Stage.TheVariants.{Written as written_stage, Placed as placed_stage, Settled as settled_at, Gated as gated_stage}
-use Rattle.inc_model.specs.declared.reply.Reply.{Reply}
-use Rattle.inc_model.specs.declared.reply.Reply.TheVariants.{Fault, Put, Placed, Gated}
-use Rattle.inc_model.specs.State.{Digests, is_in, has, flight_row, fly, is_same}
-use Rattle.inc_model.specs.Stages.{is_written, is_gated, is_at, written, placed_row, placed}
-use Rattle.inc_model.specs.Table.{unless_failed, put_reply, flight_reply, place_reply, gate_reply}
-use Rattle.inc_model.specs.Changes.{first_failure, broken_off, put_data_change, put_place_change}
-use Rattle.inc_model.specs.Step.{Fits, IsPut, may_fail}
-use Rattle.inc_model.specs.Facts.{RowFacts, FillFacts, BegunAs, FileFacts, MoreFacts}
+use Rattle.inc_model.specs.declared.words.event.Window.{Window}
+use Rattle.inc_model.specs.declared.words.file_state.FileState.{FileState}
+use Rattle.inc_model.specs.declared.words.file_state.FlightRow.{FlightRow}
+use Rattle.inc_model.specs.declared.words.file_state.Stage.{Stage}
+use Rattle.inc_model.specs.declared.words.file_state.Stage.TheVariants.{Written as written_stage, Placed as placed_stage, Settled as settled_at, Gated as gated_stage}
+use Rattle.inc_model.specs.declared.words.reply.Reply.{Reply}
+use Rattle.inc_model.specs.declared.words.reply.Reply.TheVariants.{Fault, Put, Placed, Gated}
+use Rattle.inc_model.specs.relation.State.{Digests, is_in, has, flight_row, fly, is_same}
+use Rattle.inc_model.specs.relation.Stages.{is_written, is_gated, is_at, written, placed_row, placed}
+use Rattle.inc_model.specs.relation.Table.{unless_failed, put_reply, flight_reply, place_reply, gate_reply}
+use Rattle.inc_model.specs.relation.Changes.{first_failure, broken_off, put_data_change, put_place_change}
+use Rattle.inc_model.specs.relation.Step.{Fits, IsPut, may_fail}
+use Rattle.inc_model.specs.relation.Facts.{RowFacts, FillFacts, BegunAs, FileFacts, MoreFacts}
 use Rattle.inc_model.proofs.lists.Sets.{none_found}
 use Rattle.inc_model.proofs.lists.Flight.{fly_all, fly_rises, row_none, row_found, placed_rises, index-placed}
 use Rattle.inc_model.proofs.facts_kept.Groups.{within_flight}

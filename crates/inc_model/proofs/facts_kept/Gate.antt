@@ -9,19 +9,19 @@ use Rattle.inc_pending.specs.Polling.{waits_on, marked}
 use Rattle.inc_pending.specs.declared.reads.ReadRow.{ReadRow}
 use Rattle.inc_pending.proofs.KeyedLemmas.{lookup_insert, rise_insert}
 use Rattle.inc_pending.proofs.TableLemmas.{rising-map}
-use Rattle.inc_model.specs.declared.event.Window.{Window}
-use Rattle.inc_model.specs.declared.file_state.FileState.{FileState}
-use Rattle.inc_model.specs.declared.file_state.FlightRow.{FlightRow}
-use Rattle.inc_model.specs.declared.file_state.Stage.{Stage}
-use Rattle.inc_model.specs.declared.file_state.Stage.TheVariants.{Written as written_stage, Placed as placed_stage, Settled as settled_at, Gated as gated_stage}
-use Rattle.inc_model.specs.declared.reply.Reply.{Reply}
-use Rattle.inc_model.specs.declared.reply.Reply.TheVariants.{Fault, Gated}
-use Rattle.inc_model.specs.State.{Digests, is_in, has, flight_row, land, is_same, AreSound}
-use Rattle.inc_model.specs.Stages.{is_settled, is_gated, is_at, gated_row, gated}
-use Rattle.inc_model.specs.Table.{unless_failed, gate_reply}
-use Rattle.inc_model.specs.Changes.{broken_off, begins, opens, gate_row_change, gate_change, release_change}
-use Rattle.inc_model.specs.Step.{Fits}
-use Rattle.inc_model.specs.Facts.{RowFacts, FillFacts, BegunAs, FileFacts, MoreFacts}
+use Rattle.inc_model.specs.declared.words.event.Window.{Window}
+use Rattle.inc_model.specs.declared.words.file_state.FileState.{FileState}
+use Rattle.inc_model.specs.declared.words.file_state.FlightRow.{FlightRow}
+use Rattle.inc_model.specs.declared.words.file_state.Stage.{Stage}
+use Rattle.inc_model.specs.declared.words.file_state.Stage.TheVariants.{Written as written_stage, Placed as placed_stage, Settled as settled_at, Gated as gated_stage}
+use Rattle.inc_model.specs.declared.words.reply.Reply.{Reply}
+use Rattle.inc_model.specs.declared.words.reply.Reply.TheVariants.{Fault, Gated}
+use Rattle.inc_model.specs.relation.State.{Digests, is_in, has, flight_row, land, is_same, AreSound}
+use Rattle.inc_model.specs.relation.Stages.{is_settled, is_gated, is_at, gated_row, gated}
+use Rattle.inc_model.specs.relation.Table.{unless_failed, gate_reply}
+use Rattle.inc_model.specs.relation.Changes.{broken_off, begins, opens, gate_row_change, gate_change, release_change}
+use Rattle.inc_model.specs.relation.Step.{Fits}
+use Rattle.inc_model.specs.relation.Facts.{RowFacts, FillFacts, BegunAs, FileFacts, MoreFacts}
 use Rattle.inc_model.proofs.facts_kept.Fill.{AtStage, at_stage, failed_now, gated_by, may_gate}
 use Rattle.inc_model.proofs.lists.Sets.{insert_all, in_insert, lookup_other}
 use Rattle.inc_model.proofs.facts_kept.Store.{begun_kept, opened_kept, sound_insert}

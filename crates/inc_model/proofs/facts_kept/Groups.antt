@@ -5,10 +5,10 @@ use Rattle.inc_pending.specs.Keyed.{KeysRise}
 use Rattle.inc_pending.specs.Times.{HoldsTimes}
 use Rattle.inc_pending.specs.declared.reads.ReadRow.{ReadRow}
 use Rattle.inc_pending.specs.declared.timeouts.Times.{Times}
-use Rattle.inc_model.specs.declared.file_state.FlightRow.{FlightRow}
-use Rattle.inc_model.specs.declared.file_state.FileState.{FileState}
-use Rattle.inc_model.specs.State.{Digests, Claims, Rise, WindowsRise}
-use Rattle.inc_model.specs.Facts.{ListFacts, IndexFacts, FileFacts, MoreFacts}
+use Rattle.inc_model.specs.declared.words.file_state.FlightRow.{FlightRow}
+use Rattle.inc_model.specs.declared.words.file_state.FileState.{FileState}
+use Rattle.inc_model.specs.relation.State.{Digests, Claims, Rise, WindowsRise}
+use Rattle.inc_model.specs.relation.Facts.{ListFacts, IndexFacts, FileFacts, MoreFacts}
 
 module _ {n m : ℕ} {digests begun : Digests} {damaged compressed acknowledged : List ℕ} {reads : List ReadRow} {flight : List FlightRow} (h : IndexFacts n m digests begun damaged compressed acknowledged reads flight) where
   pub within_reads : (other : List ReadRow) → All (λ row. row.block < n) other → IndexFacts n m digests begun damaged compressed acknowledged other flight

@@ -11,14 +11,14 @@ use Rattle.inc_pending.specs.Polling.{asked_row, is_asked}
 use Rattle.inc_pending.specs.declared.reads.ReadRow.{ReadRow}
 use Rattle.inc_pending.specs.declared.timeouts.Times.{Times}
 use Rattle.inc_pending.proofs.KeyedLemmas.{rise_insert, lookup_lacks}
-use Rattle.inc_model.specs.declared.file_state.FileState.{FileState}
-use Rattle.inc_model.specs.declared.reply.Reply.{Reply}
-use Rattle.inc_model.specs.declared.reply.Reply.TheVariants.{Asked, NoPath, Handed, TimedOut, Fault, Cancelled, TimesSet, Left}
-use Rattle.inc_model.specs.State.{is_in}
-use Rattle.inc_model.specs.Table.{ask_reply, times_reply}
-use Rattle.inc_model.specs.Changes.{with_read, without_read, with_faults, ask_change, poll_change, cancel_change, times_change, leave_change}
-use Rattle.inc_model.specs.Step.{Fits}
-use Rattle.inc_model.specs.Facts.{FileFacts, MoreFacts}
+use Rattle.inc_model.specs.declared.words.file_state.FileState.{FileState}
+use Rattle.inc_model.specs.declared.words.reply.Reply.{Reply}
+use Rattle.inc_model.specs.declared.words.reply.Reply.TheVariants.{Asked, NoPath, Handed, TimedOut, Fault, Cancelled, TimesSet, Left}
+use Rattle.inc_model.specs.relation.State.{is_in}
+use Rattle.inc_model.specs.relation.Table.{ask_reply, times_reply}
+use Rattle.inc_model.specs.relation.Changes.{with_read, without_read, with_faults, ask_change, poll_change, cancel_change, times_change, leave_change}
+use Rattle.inc_model.specs.relation.Step.{Fits}
+use Rattle.inc_model.specs.relation.Facts.{FileFacts, MoreFacts}
 use Rattle.inc_model.proofs.facts_kept.Groups.{within_reads, holding_times}
 use Rattle.inc_model.proofs.lists.Sets.{pairs_tail}
 

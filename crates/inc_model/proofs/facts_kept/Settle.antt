@@ -4,16 +4,16 @@ use Rattle.std.specs.Prelude.{All, AllPairs, filter}
 use Rattle.std.proofs.lemmas.Bool.{eqb-true, or_right, false_from_ne_true, false≢true}
 use Rattle.std.proofs.lemmas.List.Elements.{All-head, All-tail, All-filter, All-map, filter_passes}
 use Rattle.inc_pending.specs.Keyed.{lookup}
-use Rattle.inc_model.specs.declared.file_state.FileState.{FileState}
-use Rattle.inc_model.specs.declared.file_state.FlightRow.{FlightRow}
-use Rattle.inc_model.specs.declared.file_state.Stage.{Stage}
-use Rattle.inc_model.specs.declared.file_state.Stage.TheVariants.{Written as written_stage, Placed as placed_stage, Settled as settled_at, Gated as gated_stage}
-use Rattle.inc_model.specs.declared.reply.Reply.{Reply}
-use Rattle.inc_model.specs.declared.reply.Reply.TheVariants.{Fault, Settled}
-use Rattle.inc_model.specs.State.{Digests, is_in, has, with_index}
-use Rattle.inc_model.specs.Stages.{is_gated, synced_row, settled_stage, synced_flight, acknowledge}
-use Rattle.inc_model.specs.Changes.{synced, settle_change}
-use Rattle.inc_model.specs.Facts.{RowFacts, FillFacts, BegunAs, FileFacts, MoreFacts}
+use Rattle.inc_model.specs.declared.words.file_state.FileState.{FileState}
+use Rattle.inc_model.specs.declared.words.file_state.FlightRow.{FlightRow}
+use Rattle.inc_model.specs.declared.words.file_state.Stage.{Stage}
+use Rattle.inc_model.specs.declared.words.file_state.Stage.TheVariants.{Written as written_stage, Placed as placed_stage, Settled as settled_at, Gated as gated_stage}
+use Rattle.inc_model.specs.declared.words.reply.Reply.{Reply}
+use Rattle.inc_model.specs.declared.words.reply.Reply.TheVariants.{Fault, Settled}
+use Rattle.inc_model.specs.relation.State.{Digests, is_in, has, with_index}
+use Rattle.inc_model.specs.relation.Stages.{is_gated, synced_row, settled_stage, synced_flight, acknowledge}
+use Rattle.inc_model.specs.relation.Changes.{synced, settle_change}
+use Rattle.inc_model.specs.relation.Facts.{RowFacts, FillFacts, BegunAs, FileFacts, MoreFacts}
 use Rattle.inc_model.proofs.facts_kept.Fill.{broken_facts, broken_more}
 use Rattle.inc_model.proofs.lists.Sets.{add_all, add_rises, has_add, both}
 use Rattle.inc_model.proofs.lists.Flight.{settled_rises}

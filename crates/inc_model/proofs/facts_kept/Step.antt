@@ -9,19 +9,19 @@ use Rattle.inc_pending.specs.Times.{HoldsTimes}
 use Rattle.inc_pending.proofs.TableLemmas.{rising-map}
 use Rattle.inc_pending.specs.declared.reads.ReadRow.{ReadRow}
 use Rattle.inc_pending.specs.declared.timeouts.Times.{Times}
-use Rattle.inc_model.specs.declared.limits.TheConstants.{MOST_ENTRIES}
-use Rattle.inc_model.specs.declared.event.Event.{Event}
-use Rattle.inc_model.specs.declared.event.Event.TheVariants.{Ask, Poll, Cancel, Claim, PutData, PutPlace, Settle, Gate, Release, TakePending, SetTimes, Ranges, Count, Leave}
-use Rattle.inc_model.specs.declared.event.Window.{Window}
-use Rattle.inc_model.specs.declared.file_state.FileState.{FileState}
-use Rattle.inc_model.specs.declared.file_state.FlightRow.{FlightRow}
-use Rattle.inc_model.specs.declared.reply.Reply.{Reply}
-use Rattle.inc_model.specs.declared.reply.Reply.TheVariants.{Claimed}
-use Rattle.inc_model.specs.State.{Claims, Digests, Rise, FlightRises, is_before, has, is_in, places_left, all_places, spend, unclaim, IsOpening, WindowsRise}
-use Rattle.inc_model.specs.Table.{reply_of}
-use Rattle.inc_model.specs.Changes.{claim_change, claims_after, rest_change, change}
-use Rattle.inc_model.specs.Step.{Fits, IsAllowed, HasRoom, needs}
-use Rattle.inc_model.specs.Facts.{RowFacts, FillFacts, FileFacts, MoreFacts}
+use Rattle.inc_model.specs.declared.words.limits.TheConstants.{MOST_ENTRIES}
+use Rattle.inc_model.specs.declared.words.event.Event.{Event}
+use Rattle.inc_model.specs.declared.words.event.Event.TheVariants.{Ask, Poll, Cancel, Claim, PutData, PutPlace, Settle, Gate, Release, TakePending, SetTimes, Ranges, Count, Leave}
+use Rattle.inc_model.specs.declared.words.event.Window.{Window}
+use Rattle.inc_model.specs.declared.words.file_state.FileState.{FileState}
+use Rattle.inc_model.specs.declared.words.file_state.FlightRow.{FlightRow}
+use Rattle.inc_model.specs.declared.words.reply.Reply.{Reply}
+use Rattle.inc_model.specs.declared.words.reply.Reply.TheVariants.{Claimed}
+use Rattle.inc_model.specs.relation.State.{Claims, Digests, Rise, FlightRises, is_before, has, is_in, places_left, all_places, spend, unclaim, IsOpening, WindowsRise}
+use Rattle.inc_model.specs.relation.Table.{reply_of}
+use Rattle.inc_model.specs.relation.Changes.{claim_change, claims_after, rest_change, change}
+use Rattle.inc_model.specs.relation.Step.{Fits, IsAllowed, HasRoom, needs}
+use Rattle.inc_model.specs.relation.Facts.{RowFacts, FillFacts, FileFacts, MoreFacts}
 use Rattle.inc_model.proofs.lists.Claims.{claim_rises, claim_places, spend_rises, spend_places, unclaim_rises, unclaim_places}
 use Rattle.inc_model.proofs.facts_kept.Fill.{put_data_stays, put_data_more, put_place_stays, put_place_more}
 use Rattle.inc_model.proofs.facts_kept.Groups.{with_claims, claims_apart}
@@ -177,7 +177,7 @@ freed claimed window = step (eqb (places_left window claimed) 0) refl
     step false t = let le = unclaim_places window claimed in let some = eqb-false (places_left window claimed) 0 t in omega arith
 
 -- an entry and the places left after it take what was claimed and needed
-places_after : (claimed : Claims) (event : Event) (reply : Reply) → 1 + all_places (claims_after claimed event reply) ≤ all_places claimed + needs claimed event
+pub places_after : (claimed : Claims) (event : Event) (reply : Reply) → 1 + all_places (claims_after claimed event reply) ≤ all_places claimed + needs claimed event
 places_after claimed (Claim window places) reply = let le = claim_change_places claimed window places reply in omega arith
 places_after claimed (PutData window index digest) reply = spent claimed window
 places_after claimed (PutPlace window index) reply = spent claimed window

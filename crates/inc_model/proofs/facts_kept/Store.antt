@@ -4,8 +4,8 @@ use Rattle.std.specs.Prelude.{is_some}
 use Rattle.std.proofs.lemmas.Bool.{eqb-true, true≢false}
 use Rattle.inc_pending.specs.Keyed.{lookup, insert}
 use Rattle.inc_pending.proofs.KeyedLemmas.{lookup_insert}
-use Rattle.inc_model.specs.State.{Digests, is_in, has, AreSound}
-use Rattle.inc_model.specs.Facts.{KeptFacts}
+use Rattle.inc_model.specs.relation.State.{Digests, is_in, has, AreSound}
+use Rattle.inc_model.specs.relation.Facts.{KeptFacts}
 use Rattle.inc_model.proofs.lists.Sets.{in_insert}
 
 module _ (first digests begun : Digests) (acknowledged : List ℕ) (index : ℕ) (digest : List ℕ) (h : KeptFacts first digests begun acknowledged) (new : is_in index first ≡ false) where

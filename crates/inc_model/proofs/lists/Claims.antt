@@ -6,8 +6,8 @@ use Rattle.std.proofs.lemmas.Bool.Decides.{nat_tests}
 use Rattle.std.proofs.lemmas.List.Elements.{All-nil, All-cons, All-head, All-tail}
 use Rattle.std.proofs.lemmas.List.Kept.{AllPairs-cons, AllPairs-filter}
 use Rattle.std.proofs.lemmas.List.Sums.{sum_by-cons}
-use Rattle.inc_model.specs.declared.event.Window.{Window}
-use Rattle.inc_model.specs.State.{Claims, is_same, is_before, places_left, all_places, claim, spend, unclaim, WindowsRise}
+use Rattle.inc_model.specs.declared.words.event.Window.{Window}
+use Rattle.inc_model.specs.relation.State.{Claims, is_same, is_before, places_left, all_places, claim, spend, unclaim, WindowsRise}
 use Rattle.inc_model.proofs.lists.Sets.{pairs_head, pairs_tail}
 
 -- ---- the order of windows

@@ -1,14 +1,16 @@
 -- The rows in flight after one more, and after a change of stages.
-use Rattle.std.proofs.Common.{◌≡◌, ℕ, ◌<◌, Bool, true, false, not, cond, eqb, ltb, List, [], ◌∷◌, get_or, Option, Some, None, refl, ap, subst, ◌∙◌, arith}
-use Rattle.std.specs.Prelude.{All, filter}
+use Rattle.std.proofs.Common.{◌≡◌, ℕ, ◌<◌, Bool, true, false, not, cond, eqb, ltb, List, [], ◌∷◌, length, ◌+◌, get_or, Option, Some, None, refl, ap, subst, ◌∙◌, arith}
+use Rattle.std.specs.Prelude.{All, filter, count_by}
 use Rattle.std.proofs.lemmas.Bool.{eqb-true, eq-eqb, ne_eqb, cond_both, ltb-true, ltb-false, eqb-false}
 use Rattle.std.proofs.lemmas.List.Elements.{All-nil, All-cons, All-head, All-tail}
+use Rattle.std.proofs.lemmas.List.Sums.{length-filter}
+use Rattle.std.proofs.lemmas.List.Filters.{length-filter_both}
 use Rattle.std.proofs.lemmas.List.Kept.{AllPairs-cons, AllPairs-filter}
 use Rattle.inc_pending.proofs.TableLemmas.{rising-map}
-use Rattle.inc_model.specs.declared.file_state.FlightRow.{FlightRow}
-use Rattle.inc_model.specs.declared.file_state.Stage.TheVariants.{Placed, Gated}
-use Rattle.inc_model.specs.State.{flight_row, fly, FlightRises}
-use Rattle.inc_model.specs.Stages.{is_gated, placed, placed_row, gated, gated_row, synced_flight, synced_row}
+use Rattle.inc_model.specs.declared.words.file_state.FlightRow.{FlightRow}
+use Rattle.inc_model.specs.declared.words.file_state.Stage.TheVariants.{Placed, Gated}
+use Rattle.inc_model.specs.relation.State.{flight_row, fly, FlightRises}
+use Rattle.inc_model.specs.relation.Stages.{is_gated, placed, placed_row, gated, gated_row, synced_flight, synced_row}
 use Rattle.inc_model.proofs.lists.Sets.{pairs_head, pairs_tail}
 
 -- ---- one more row
@@ -124,3 +126,8 @@ row_fly q new (row ∷ rows) ne =
     cond_both (ltb new.index row.index) (new ∷ row ∷ rows) (row ∷ fly new rows) (λ (l : List FlightRow). flight_row q l ≡ flight_row q (row ∷ rows))
     (λ _. ap (λ b. cond b (Some new) (flight_row q (row ∷ rows))) ne)
     (λ _. ap (λ (o : Option FlightRow). cond (eqb row.index q) (Some row) o) (row_fly q new rows ne))
+
+-- ---- how many leave at a sync
+
+pub gated_leave : (rows : List FlightRow) → length (filter (λ (row : FlightRow). not (is_gated row.stage)) rows) + count_by (λ (row : FlightRow). is_gated row.stage) rows ≡ length rows
+gated_leave rows = omega (arith, length-filter (λ (row : FlightRow). is_gated row.stage) rows, length-filter_both (λ (row : FlightRow). is_gated row.stage) (λ (row : FlightRow). not (is_gated row.stage)) (λ row. refl) rows)

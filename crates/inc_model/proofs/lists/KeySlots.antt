@@ -2,8 +2,8 @@
 use Rattle.std.proofs.Common.{◌≡◌, ℕ, zero, suc, ◌<◌, ◌≤◌, List, [], ◌∷◌, length, get_or, set, refl, sym, ap, subst, ◌∙◌, arith}
 use Rattle.std.proofs.lemmas.Bool.{lt-ltb, le-ltb, eq-eqb, ne_eqb}
 use Rattle.inc_pending.specs.Keyed.{insert}
-use Rattle.inc_model.specs.State.{with_index}
-use Rattle.inc_model.specs.Places.{with_at, IsKeyAt, IsKeySlot, IsSlot}
+use Rattle.inc_model.specs.relation.State.{with_index}
+use Rattle.inc_model.specs.executed.Places.{with_at, IsKeyAt, IsKeySlot, IsSlot}
 
 -- ---- the place of a key: every row before it has a lower one
 

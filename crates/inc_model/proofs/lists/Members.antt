@@ -3,8 +3,8 @@ use Rattle.std.proofs.Common.{◌≡◌, suc, ◌⊎◌, Bool, true, false, cond
 use Rattle.std.specs.Prelude.{All, Any, Contains, filter, map}
 use Rattle.std.proofs.lemmas.Bool.{cond_both}
 use Rattle.std.proofs.lemmas.List.Elements.{All-nil, All-cons, All-contains_itself}
-use Rattle.inc_model.specs.declared.file_state.FlightRow.{FlightRow}
-use Rattle.inc_model.specs.State.{fly}
+use Rattle.inc_model.specs.declared.words.file_state.FlightRow.{FlightRow}
+use Rattle.inc_model.specs.relation.State.{fly}
 
 module _ {X : Type 0} where
   head_in : (x : X) (xs : List X) → Contains (x ∷ xs) x

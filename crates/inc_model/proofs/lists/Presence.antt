@@ -3,8 +3,8 @@ use Rattle.std.proofs.Common.{◌≡◌, ℕ, zero, suc, ◌<◌, false, [], ◌
 use Rattle.std.proofs.lemmas.Bool.{cases_lt}
 use Rattle.std.proofs.lemmas.List.{get_or_append_left, get_or_push}
 use Rattle.inc_ranges.specs.Runs.{is_filled}
-use Rattle.inc_model.specs.State.{Digests, is_in}
-use Rattle.inc_model.specs.Table.{presence}
+use Rattle.inc_model.specs.relation.State.{Digests, is_in}
+use Rattle.inc_model.specs.relation.Table.{presence}
 
 pub length-presence : (digests : Digests) (count : ℕ) → length (presence digests count) ≡ count
 unfolding presence

@@ -4,7 +4,7 @@ use Rattle.std.specs.Prelude.{All, is_some}
 use Rattle.std.proofs.lemmas.Bool.{cases_lt, eq-eqb, ne_eqb, false≢true}
 use Rattle.std.proofs.lemmas.List.Elements.{All-head, All-tail}
 use Rattle.inc_pending.specs.Keyed.{lookup, KeysRise}
-use Rattle.inc_model.specs.State.{has, Rise}
+use Rattle.inc_model.specs.relation.State.{has, Rise}
 use Rattle.inc_model.proofs.lists.Sets.{pairs_head, pairs_tail}
 
 -- ---- indices

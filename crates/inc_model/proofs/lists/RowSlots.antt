@@ -4,10 +4,10 @@ use Rattle.std.proofs.lemmas.Bool.{cases_lt, lt-ltb, le-ltb}
 use Rattle.std.proofs.lemmas.List.{get_or_default}
 use Rattle.std.proofs.lemmas.List.Edits.{map_over_more}
 use Rattle.std.proofs.lemmas.List.Sums.{sum_by-cons}
-use Rattle.inc_model.specs.declared.event.Window.{Window}
-use Rattle.inc_model.specs.declared.file_state.FlightRow.{FlightRow}
-use Rattle.inc_model.specs.State.{Claims, is_same, is_before, all_places, claim, spend, fly}
-use Rattle.inc_model.specs.Places.{with_at, IsClaimAt, IsClaimSlot, IsWindowAt, IsFlightSlot}
+use Rattle.inc_model.specs.declared.words.event.Window.{Window}
+use Rattle.inc_model.specs.declared.words.file_state.FlightRow.{FlightRow}
+use Rattle.inc_model.specs.relation.State.{Claims, is_same, is_before, all_places, claim, spend, fly}
+use Rattle.inc_model.specs.executed.Places.{with_at, IsClaimAt, IsClaimSlot, IsWindowAt, IsFlightSlot}
 
 -- ---- a window's row, as a claim finds it
 

@@ -7,7 +7,7 @@ use Rattle.std.proofs.lemmas.List.Elements.{All-nil, All-cons, All-head, All-tai
 use Rattle.std.proofs.lemmas.List.Kept.{AllPairs-cons}
 use Rattle.inc_pending.specs.Keyed.{lookup, insert}
 use Rattle.inc_pending.proofs.KeyedLemmas.{lookup_insert}
-use Rattle.inc_model.specs.State.{is_in, has, with_index, Rise}
+use Rattle.inc_model.specs.relation.State.{is_in, has, with_index, Rise}
 
 -- ---- the first of a rising list, and the rest
 

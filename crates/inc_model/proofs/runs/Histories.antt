@@ -2,16 +2,16 @@
 use Rattle.std.proofs.Common.{◌≡◌, ℕ, suc, ◌+◌, ◌≤◌, Bool, true, false, not, cond, eqb, List, [], ◌∷◌, ◌++◌, length, refl, sym, ap, subst, ◌∙◌, arith, append-nil}
 use Rattle.std.proofs.lemmas.Bool.{and_parts}
 use Rattle.std.proofs.lemmas.List.Elements.{filter-append}
-use Rattle.inc_model.specs.declared.limits.TheConstants.{MOST_ENTRIES}
-use Rattle.inc_model.specs.declared.event.Event.{Event}
-use Rattle.inc_model.specs.declared.file_state.FileState.{FileState}
-use Rattle.inc_model.specs.declared.reply.Entry.{Entry}
-use Rattle.inc_model.specs.declared.reply.Reply.{Reply}
-use Rattle.inc_model.specs.State.{all_places, IsOpening}
-use Rattle.inc_model.specs.Changes.{window_of}
-use Rattle.inc_model.specs.Step.{IsOwn, IsEntry, IsLegal, Step, after_entry, state_after}
-use Rattle.inc_model.specs.Facts.{FileFacts, MoreFacts}
-use Rattle.inc_model.specs.HistoryLaws.{own_entries, are_others}
+use Rattle.inc_model.specs.declared.words.limits.TheConstants.{MOST_ENTRIES}
+use Rattle.inc_model.specs.declared.words.event.Event.{Event}
+use Rattle.inc_model.specs.declared.words.file_state.FileState.{FileState}
+use Rattle.inc_model.specs.declared.words.reply.Entry.{Entry}
+use Rattle.inc_model.specs.declared.words.reply.Reply.{Reply}
+use Rattle.inc_model.specs.relation.State.{all_places, IsOpening}
+use Rattle.inc_model.specs.relation.Changes.{window_of}
+use Rattle.inc_model.specs.relation.Step.{IsOwn, IsEntry, IsLegal, Step, after_entry, state_after}
+use Rattle.inc_model.specs.relation.Facts.{FileFacts, MoreFacts}
+use Rattle.inc_model.specs.laws.HistoryLaws.{own_entries, are_others}
 use Rattle.inc_model.proofs.facts_kept.Step.{stays, more_stays, opening_facts, opening_more, limit_stays}
 
 -- ---- facts

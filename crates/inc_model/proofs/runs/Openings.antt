@@ -4,10 +4,10 @@ use Rattle.std.specs.Prelude.{All, filter, map}
 use Rattle.std.proofs.lemmas.Bool.{eqb-true, eq-eqb, or_left, or_right}
 use Rattle.std.proofs.lemmas.List.Elements.{All-nil, All-cons, All-head, All-tail}
 use Rattle.inc_pending.specs.Keyed.{lookup}
-use Rattle.inc_model.specs.declared.file_state.FileState.{FileState}
-use Rattle.inc_model.specs.State.{Digests, has, Rise, IsOpening}
-use Rattle.inc_model.specs.Worlds.{IsReopening}
-use Rattle.inc_model.specs.Openings.{OpenedLists, AreOpeningLists, opening_state, acknowledged_rows, IsReopenedAs}
+use Rattle.inc_model.specs.declared.words.file_state.FileState.{FileState}
+use Rattle.inc_model.specs.relation.State.{Digests, has, Rise, IsOpening}
+use Rattle.inc_model.specs.histories.Worlds.{IsReopening}
+use Rattle.inc_model.specs.relation.Openings.{OpenedLists, AreOpeningLists, opening_state, acknowledged_rows, IsReopenedAs}
 use Rattle.inc_model.proofs.lists.Rising.{same_indices}
 
 pub lists_open : (id : List ℕ) (n m : ℕ) (root : Option (List ℕ)) (lists : OpenedLists) (faults readers : ℕ) → AreOpeningLists (n + m) lists → IsOpening (opening_state id n m root lists faults readers)

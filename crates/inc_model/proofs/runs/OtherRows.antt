@@ -4,24 +4,24 @@ use Rattle.std.specs.Prelude.{filter, count_by}
 use Rattle.std.proofs.lemmas.Bool.{eqb-true, eq-eqb, true≢false, false_from_ne_true}
 use Rattle.inc_pending.specs.Polling.{waits_on}
 use Rattle.inc_pending.specs.declared.timeouts.Times.{Times}
-use Rattle.inc_model.specs.declared.event.Event.{Event}
-use Rattle.inc_model.specs.declared.event.Event.TheVariants.{Ask, Poll, Cancel, Claim, PutData, PutPlace, Settle, Gate, Release, TakePending, SetTimes, Ranges, Count, Leave}
-use Rattle.inc_model.specs.declared.event.Window.{Window}
-use Rattle.inc_model.specs.declared.file_state.FileState.{FileState}
-use Rattle.inc_model.specs.declared.file_state.FlightRow.{FlightRow}
-use Rattle.inc_model.specs.declared.file_state.Stage.{Stage}
-use Rattle.inc_model.specs.declared.file_state.Stage.TheVariants.{Written as written_stage, Placed as placed_stage, Settled as settled_at, Gated as gated_stage}
-use Rattle.inc_model.specs.declared.reply.Entry.{Entry}
-use Rattle.inc_model.specs.declared.reply.Reply.{Reply}
-use Rattle.inc_model.specs.declared.reply.Reply.TheVariants.{Asked, NoPath, Handed, TimedOut, Fault, Cancelled, Put, Placed, Settled, Gated, TimesSet, Left}
-use Rattle.inc_model.specs.State.{has, is_in, flight_row, is_same}
-use Rattle.inc_model.specs.Stages.{settled_stage as settles_to, is_at, is_written, is_settled, is_gated, written, placed_row, gated_row, synced_row, synced_flight}
-use Rattle.inc_model.specs.Table.{reply_of, unless_failed, place_reply, gate_reply}
-use Rattle.inc_model.specs.Changes.{window_of, ask_change, poll_change, cancel_change, put_data_change, put_place_change, settle_change, gate_change, times_change, leave_change, rest_change, change}
-use Rattle.inc_model.specs.Step.{Fits, IsAllowed, IsLegal, IsOwn, after_entry, state_after}
-use Rattle.inc_model.specs.HistoryLaws.{are_others}
-use Rattle.inc_model.specs.StageLaws.{as_stage}
-use Rattle.inc_model.specs.OthersLaws.{IsLeftAs}
+use Rattle.inc_model.specs.declared.words.event.Event.{Event}
+use Rattle.inc_model.specs.declared.words.event.Event.TheVariants.{Ask, Poll, Cancel, Claim, PutData, PutPlace, Settle, Gate, Release, TakePending, SetTimes, Ranges, Count, Leave}
+use Rattle.inc_model.specs.declared.words.event.Window.{Window}
+use Rattle.inc_model.specs.declared.words.file_state.FileState.{FileState}
+use Rattle.inc_model.specs.declared.words.file_state.FlightRow.{FlightRow}
+use Rattle.inc_model.specs.declared.words.file_state.Stage.{Stage}
+use Rattle.inc_model.specs.declared.words.file_state.Stage.TheVariants.{Written as written_stage, Placed as placed_stage, Settled as settled_at, Gated as gated_stage}
+use Rattle.inc_model.specs.declared.words.reply.Entry.{Entry}
+use Rattle.inc_model.specs.declared.words.reply.Reply.{Reply}
+use Rattle.inc_model.specs.declared.words.reply.Reply.TheVariants.{Asked, NoPath, Handed, TimedOut, Fault, Cancelled, Put, Placed, Settled, Gated, TimesSet, Left}
+use Rattle.inc_model.specs.relation.State.{has, is_in, flight_row, is_same}
+use Rattle.inc_model.specs.relation.Stages.{settled_stage as settles_to, is_at, is_written, is_settled, is_gated, written, placed_row, gated_row, synced_row, synced_flight}
+use Rattle.inc_model.specs.relation.Table.{reply_of, unless_failed, place_reply, gate_reply}
+use Rattle.inc_model.specs.relation.Changes.{window_of, ask_change, poll_change, cancel_change, put_data_change, put_place_change, settle_change, gate_change, times_change, leave_change, rest_change, change}
+use Rattle.inc_model.specs.relation.Step.{Fits, IsAllowed, IsLegal, IsOwn, after_entry, state_after}
+use Rattle.inc_model.specs.laws.HistoryLaws.{are_others}
+use Rattle.inc_model.specs.laws.StageLaws.{as_stage}
+use Rattle.inc_model.specs.laws.OthersLaws.{IsLeftAs}
 use Rattle.inc_model.proofs.lists.Claims.{same_is}
 use Rattle.inc_model.proofs.lists.Finds.{find_filter, find_map}
 use Rattle.inc_model.proofs.lists.Flight.{row_found, row_fly, index-placed, index-gated}

@@ -6,19 +6,19 @@ use Rattle.inc_pending.specs.Polling.{read_of, is_asked, marked, waits_on, asked
 use Rattle.inc_pending.specs.Times.{times_of}
 use Rattle.inc_pending.specs.declared.reads.ReadRow.{ReadRow}
 use Rattle.inc_pending.specs.declared.timeouts.Times.{Times}
-use Rattle.inc_model.specs.declared.event.Event.{Event}
-use Rattle.inc_model.specs.declared.event.Event.TheVariants.{Ask, Poll, Cancel, Claim, PutData, PutPlace, Settle, Gate, Release, TakePending, SetTimes, Ranges, Count, Leave}
-use Rattle.inc_model.specs.declared.event.Window.{Window}
-use Rattle.inc_model.specs.declared.file_state.FileState.{FileState}
-use Rattle.inc_model.specs.declared.file_state.FlightRow.{FlightRow}
-use Rattle.inc_model.specs.declared.reply.Entry.{Entry}
-use Rattle.inc_model.specs.declared.reply.Reply.{Reply}
-use Rattle.inc_model.specs.declared.reply.Reply.TheVariants.{Asked, NoPath, Handed, TimedOut, Fault, Cancelled, Put, Placed, Settled, Gated, TimesSet, Left}
-use Rattle.inc_model.specs.State.{is_in, flight_row, places_left}
-use Rattle.inc_model.specs.Changes.{window_of, ask_change, poll_change, cancel_change, put_data_change, put_place_change, settle_change, gate_change, times_change, leave_change, rest_change, change}
-use Rattle.inc_model.specs.Step.{IsLegal, IsOwn, after_entry, state_after}
-use Rattle.inc_model.specs.HistoryLaws.{are_others}
-use Rattle.inc_model.specs.OthersLaws.{HasRead}
+use Rattle.inc_model.specs.declared.words.event.Event.{Event}
+use Rattle.inc_model.specs.declared.words.event.Event.TheVariants.{Ask, Poll, Cancel, Claim, PutData, PutPlace, Settle, Gate, Release, TakePending, SetTimes, Ranges, Count, Leave}
+use Rattle.inc_model.specs.declared.words.event.Window.{Window}
+use Rattle.inc_model.specs.declared.words.file_state.FileState.{FileState}
+use Rattle.inc_model.specs.declared.words.file_state.FlightRow.{FlightRow}
+use Rattle.inc_model.specs.declared.words.reply.Entry.{Entry}
+use Rattle.inc_model.specs.declared.words.reply.Reply.{Reply}
+use Rattle.inc_model.specs.declared.words.reply.Reply.TheVariants.{Asked, NoPath, Handed, TimedOut, Fault, Cancelled, Put, Placed, Settled, Gated, TimesSet, Left}
+use Rattle.inc_model.specs.relation.State.{is_in, flight_row, places_left}
+use Rattle.inc_model.specs.relation.Changes.{window_of, ask_change, poll_change, cancel_change, put_data_change, put_place_change, settle_change, gate_change, times_change, leave_change, rest_change, change}
+use Rattle.inc_model.specs.relation.Step.{IsLegal, IsOwn, after_entry, state_after}
+use Rattle.inc_model.specs.laws.HistoryLaws.{are_others}
+use Rattle.inc_model.specs.laws.OthersLaws.{HasRead}
 use Rattle.inc_model.proofs.lists.Finds.{find_passes, find_append, find_filter, find_map}
 use Rattle.inc_model.proofs.steps.Places.{claims_of_others}
 

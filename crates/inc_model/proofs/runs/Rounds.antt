@@ -2,17 +2,18 @@
 use Rattle.std.proofs.Common.{◌≡◌, ℕ, zero, suc, ◌+◌, ◌<◌, ◌≤◌, true, List, [], ◌∷◌, ◌++◌, length, get_or, take, drop, refl, sym, ap, subst, ◌∙◌, arith, append-nil, append_assoc}
 use Rattle.std.proofs.lemmas.List.{take_all, take-append-drop, take-append-le, drop-append-le, length-append, length-take, length-drop}
 use Rattle.std.proofs.lemmas.List.Elements.{All-nil}
-use Rattle.inc_tree.specs.Geometry.{tree_of, data_blocks}
+use Rattle.inc_tree.specs.Geometry.{tree_of, data_blocks, hash_blocks}
 use Rattle.inc_tree.proofs.LevelLemmas.{hash_small}
 use Rattle.inc_pending.specs.declared.reads.ReadRow.{ReadRow}
-use Rattle.inc_model.specs.declared.world.TheConstants.{FRESH_SIZE}
-use Rattle.inc_model.specs.declared.file_state.FileState.{FileState}
-use Rattle.inc_model.specs.declared.reply.Entry.{Entry}
-use Rattle.inc_model.specs.declared.world.Round.{Round}
-use Rattle.inc_model.specs.Step.{IsEntry, IsLegal, after_entry, state_after}
-use Rattle.inc_model.specs.Worlds.{Moment, IsWorld, beginning, moves_of, world_after}
-use Rattle.inc_model.specs.CoreFacts.{IsHeld}
-use Rattle.inc_model.specs.Runs.{RunsTo, fresh_state, all_entries}
+use Rattle.inc_model.specs.declared.histories.world.TheConstants.{FRESH_SIZE}
+use Rattle.inc_model.specs.declared.words.file_state.FileState.{FileState}
+use Rattle.inc_model.specs.declared.words.file_state.FlightRow.{FlightRow}
+use Rattle.inc_model.specs.declared.words.reply.Entry.{Entry}
+use Rattle.inc_model.specs.declared.histories.world.Round.{Round}
+use Rattle.inc_model.specs.relation.Step.{IsEntry, IsLegal, after_entry, state_after}
+use Rattle.inc_model.specs.histories.Worlds.{Moment, IsWorld, beginning, moves_of, world_after}
+use Rattle.inc_model.specs.executed.CoreFacts.{IsHeld}
+use Rattle.inc_model.specs.histories.Runs.{RunsTo, fresh_state, all_entries}
 use Rattle.inc_model.proofs.facts_kept.Core.{held_after}
 use Rattle.inc_model.proofs.lists.Sets.{pairs_none}
 use Rattle.inc_model.proofs.runs.Worlds.{history_world, world_end}
@@ -115,6 +116,9 @@ fresh_held = record {
   serials = omega arith;
   there = omega arith;
   limit = omega arith;
+  damaged_rises = pairs_none (λ (a b : ℕ). a < b);
+  compressed_rises = pairs_none (λ (a b : ℕ). a < b);
+  flying = All-nil (λ (r : FlightRow). r.index < data_blocks (tree_of FRESH_SIZE) + hash_blocks (tree_of FRESH_SIZE));
 }
 
 pub rounds_none : (rounds : List Round) → RanRounds rounds 0 0 fresh_state

@@ -9,23 +9,23 @@ use Rattle.inc_pending.specs.Keyed.{lookup, insert}
 use Rattle.inc_pending.specs.Polling.{waits_on}
 use Rattle.inc_pending.specs.declared.timeouts.Times.{Times}
 use Rattle.inc_pending.proofs.KeyedLemmas.{lookup_insert}
-use Rattle.inc_model.specs.declared.event.Event.{Event}
-use Rattle.inc_model.specs.declared.event.Event.TheVariants.{Ask, Poll, Cancel, Claim, PutData, PutPlace, Settle, Gate, Release, TakePending, SetTimes, Ranges, Count, Leave}
-use Rattle.inc_model.specs.declared.event.Window.{Window}
-use Rattle.inc_model.specs.declared.file_state.FileState.{FileState}
-use Rattle.inc_model.specs.declared.file_state.FlightRow.{FlightRow}
-use Rattle.inc_model.specs.declared.file_state.Stage.TheVariants.{Placed as placed_stage, Gated as gated_stage}
-use Rattle.inc_model.specs.declared.reply.Entry.{Entry}
-use Rattle.inc_model.specs.declared.reply.Reply.{Reply}
-use Rattle.inc_model.specs.declared.reply.Reply.TheVariants.{Asked, NoPath, Handed, TimedOut, Fault, Cancelled, Put, Placed, Settled, Gated, TimesSet, Left}
-use Rattle.inc_model.specs.State.{Digests, flight_row, is_same}
-use Rattle.inc_model.specs.Stages.{is_at, is_settled, is_gated, written, placed_row, gated, gated_row, synced_row}
-use Rattle.inc_model.specs.Table.{reply_of, unless_failed, gate_reply}
-use Rattle.inc_model.specs.Changes.{ask_change, poll_change, cancel_change, put_data_change, put_place_change, settle_change, gate_row_change, gate_change, release_change, times_change, leave_change, change}
-use Rattle.inc_model.specs.Step.{Fits}
-use Rattle.inc_model.specs.Facts.{FileFacts}
-use Rattle.inc_model.specs.Worlds.{Moment, Move, Does, Crashes, beginning, after_move, MayMove, world_after, IsWorld}
-use Rattle.inc_model.specs.WorldLaws.{PutStands, PutAndGated, IsFlying, ComesFrom, Began, releases, keeps_window}
+use Rattle.inc_model.specs.declared.words.event.Event.{Event}
+use Rattle.inc_model.specs.declared.words.event.Event.TheVariants.{Ask, Poll, Cancel, Claim, PutData, PutPlace, Settle, Gate, Release, TakePending, SetTimes, Ranges, Count, Leave}
+use Rattle.inc_model.specs.declared.words.event.Window.{Window}
+use Rattle.inc_model.specs.declared.words.file_state.FileState.{FileState}
+use Rattle.inc_model.specs.declared.words.file_state.FlightRow.{FlightRow}
+use Rattle.inc_model.specs.declared.words.file_state.Stage.TheVariants.{Placed as placed_stage, Gated as gated_stage}
+use Rattle.inc_model.specs.declared.words.reply.Entry.{Entry}
+use Rattle.inc_model.specs.declared.words.reply.Reply.{Reply}
+use Rattle.inc_model.specs.declared.words.reply.Reply.TheVariants.{Asked, NoPath, Handed, TimedOut, Fault, Cancelled, Put, Placed, Settled, Gated, TimesSet, Left}
+use Rattle.inc_model.specs.relation.State.{Digests, flight_row, is_same}
+use Rattle.inc_model.specs.relation.Stages.{is_at, is_settled, is_gated, written, placed_row, gated, gated_row, synced_row}
+use Rattle.inc_model.specs.relation.Table.{reply_of, unless_failed, gate_reply}
+use Rattle.inc_model.specs.relation.Changes.{ask_change, poll_change, cancel_change, put_data_change, put_place_change, settle_change, gate_row_change, gate_change, release_change, times_change, leave_change, change}
+use Rattle.inc_model.specs.relation.Step.{Fits}
+use Rattle.inc_model.specs.relation.Facts.{FileFacts}
+use Rattle.inc_model.specs.histories.Worlds.{Moment, Move, Does, Crashes, beginning, after_move, MayMove, world_after, IsWorld}
+use Rattle.inc_model.specs.laws.WorldLaws.{PutStands, PutAndGated, IsFlying, ComesFrom, Began, releases, keeps_window}
 use Rattle.inc_model.proofs.lists.Claims.{same_is}
 use Rattle.inc_model.proofs.facts_kept.Fill.{gated_by, may_gate}
 use Rattle.inc_model.proofs.lists.Flight.{fly_all, row_found}

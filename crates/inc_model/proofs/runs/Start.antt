@@ -4,12 +4,12 @@ use Rattle.std.proofs.lemmas.List.Elements.{All-nil}
 use Rattle.inc_tree.specs.Geometry.{levels, level_counts, tree_of, data_blocks, hash_blocks}
 use Rattle.inc_pending.specs.declared.reads.ReadRow.{ReadRow}
 use Rattle.inc_pending.specs.declared.timeouts.Times.{Times}
-use Rattle.inc_model.specs.declared.world.TheConstants.{FRESH_SIZE}
-use Rattle.inc_model.specs.declared.event.Window.{Window}
-use Rattle.inc_model.specs.declared.file_state.FlightRow.{FlightRow}
-use Rattle.inc_model.specs.State.{is_before, IsOpening}
-use Rattle.inc_model.specs.Facts.{IsStart}
-use Rattle.inc_model.specs.Runs.{fresh_state}
+use Rattle.inc_model.specs.declared.histories.world.TheConstants.{FRESH_SIZE}
+use Rattle.inc_model.specs.declared.words.event.Window.{Window}
+use Rattle.inc_model.specs.declared.words.file_state.FlightRow.{FlightRow}
+use Rattle.inc_model.specs.relation.State.{is_before, IsOpening}
+use Rattle.inc_model.specs.relation.Facts.{IsStart}
+use Rattle.inc_model.specs.histories.Runs.{fresh_state}
 use Rattle.inc_model.proofs.lists.Sets.{pairs_none}
 
 abbrev most : ℕ

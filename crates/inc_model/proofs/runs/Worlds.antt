@@ -5,21 +5,21 @@ use Rattle.std.proofs.lemmas.Bool.{eqb-true, true≢false, false_from_ne_true}
 use Rattle.inc_pending.specs.Keyed.{lookup}
 use Rattle.inc_pending.specs.Polling.{waits_on}
 use Rattle.inc_pending.specs.declared.timeouts.Times.{Times}
-use Rattle.inc_model.specs.declared.event.Event.{Event}
-use Rattle.inc_model.specs.declared.event.Event.TheVariants.{Ask, Poll, Cancel, Claim, PutData, PutPlace, Settle, Gate, Release, TakePending, SetTimes, Ranges, Count, Leave}
-use Rattle.inc_model.specs.declared.event.Window.{Window}
-use Rattle.inc_model.specs.declared.file_state.FileState.{FileState}
-use Rattle.inc_model.specs.declared.file_state.FlightRow.{FlightRow}
-use Rattle.inc_model.specs.declared.reply.Entry.{Entry}
-use Rattle.inc_model.specs.declared.reply.Reply.{Reply}
-use Rattle.inc_model.specs.declared.reply.Reply.TheVariants.{Asked, NoPath, Handed, TimedOut, Fault, Cancelled, Put, Placed, Settled, Gated, TimesSet, Left}
-use Rattle.inc_model.specs.State.{has, is_in, flight_row}
-use Rattle.inc_model.specs.Stages.{is_at, is_settled}
-use Rattle.inc_model.specs.Table.{reply_of, unless_failed, gate_reply}
-use Rattle.inc_model.specs.Changes.{ask_change, poll_change, cancel_change, put_data_change, put_place_change, settle_change, gate_row_change, gate_change, times_change, leave_change, rest_change}
-use Rattle.inc_model.specs.Step.{Fits, IsLegal, after_entry, state_after}
-use Rattle.inc_model.specs.Facts.{FileFacts}
-use Rattle.inc_model.specs.Worlds.{Moment, Move, Does, Crashes, beginning, after_move, MayMove, world_after, IsWorld, moves_of}
+use Rattle.inc_model.specs.declared.words.event.Event.{Event}
+use Rattle.inc_model.specs.declared.words.event.Event.TheVariants.{Ask, Poll, Cancel, Claim, PutData, PutPlace, Settle, Gate, Release, TakePending, SetTimes, Ranges, Count, Leave}
+use Rattle.inc_model.specs.declared.words.event.Window.{Window}
+use Rattle.inc_model.specs.declared.words.file_state.FileState.{FileState}
+use Rattle.inc_model.specs.declared.words.file_state.FlightRow.{FlightRow}
+use Rattle.inc_model.specs.declared.words.reply.Entry.{Entry}
+use Rattle.inc_model.specs.declared.words.reply.Reply.{Reply}
+use Rattle.inc_model.specs.declared.words.reply.Reply.TheVariants.{Asked, NoPath, Handed, TimedOut, Fault, Cancelled, Put, Placed, Settled, Gated, TimesSet, Left}
+use Rattle.inc_model.specs.relation.State.{has, is_in, flight_row}
+use Rattle.inc_model.specs.relation.Stages.{is_at, is_settled}
+use Rattle.inc_model.specs.relation.Table.{reply_of, unless_failed, gate_reply}
+use Rattle.inc_model.specs.relation.Changes.{ask_change, poll_change, cancel_change, put_data_change, put_place_change, settle_change, gate_row_change, gate_change, times_change, leave_change, rest_change}
+use Rattle.inc_model.specs.relation.Step.{Fits, IsLegal, after_entry, state_after}
+use Rattle.inc_model.specs.relation.Facts.{FileFacts}
+use Rattle.inc_model.specs.histories.Worlds.{Moment, Move, Does, Crashes, beginning, after_move, MayMove, world_after, IsWorld, moves_of}
 use Rattle.inc_model.proofs.facts_kept.Fill.{gated_by}
 use Rattle.inc_model.proofs.lists.Sets.{lookup_other, found_in, has_keys}
 use Rattle.inc_model.proofs.facts_kept.Gate.{gate_absent, settled_found}

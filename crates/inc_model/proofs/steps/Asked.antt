@@ -6,20 +6,20 @@ use Rattle.std.proofs.lemmas.List.Elements.{All-nil, All-push, All-map, All-filt
 use Rattle.inc_pending.specs.Polling.{asked_row, is_asked, marked, waits_on}
 use Rattle.inc_pending.specs.Times.{times_of}
 use Rattle.inc_pending.specs.declared.reads.ReadRow.{ReadRow}
-use Rattle.inc_model.specs.declared.event.Event.{Event}
-use Rattle.inc_model.specs.declared.event.Event.TheVariants.{Ask, Poll, Cancel, Claim, PutData, PutPlace, Settle, Gate, Release, TakePending, SetTimes, Ranges, Count, Leave}
-use Rattle.inc_model.specs.declared.event.Window.{Window}
-use Rattle.inc_model.specs.declared.file_state.FileState.{FileState}
-use Rattle.inc_model.specs.declared.file_state.FlightRow.{FlightRow}
-use Rattle.inc_model.specs.declared.reply.Entry.{Entry}
-use Rattle.inc_model.specs.declared.reply.Reply.{Reply}
-use Rattle.inc_model.specs.declared.reply.Reply.TheVariants.{Asked, NoPath, Handed, TimedOut, Fault, Cancelled, Put, Placed, Settled, Gated, TimesSet, Left}
+use Rattle.inc_model.specs.declared.words.event.Event.{Event}
+use Rattle.inc_model.specs.declared.words.event.Event.TheVariants.{Ask, Poll, Cancel, Claim, PutData, PutPlace, Settle, Gate, Release, TakePending, SetTimes, Ranges, Count, Leave}
+use Rattle.inc_model.specs.declared.words.event.Window.{Window}
+use Rattle.inc_model.specs.declared.words.file_state.FileState.{FileState}
+use Rattle.inc_model.specs.declared.words.file_state.FlightRow.{FlightRow}
+use Rattle.inc_model.specs.declared.words.reply.Entry.{Entry}
+use Rattle.inc_model.specs.declared.words.reply.Reply.{Reply}
+use Rattle.inc_model.specs.declared.words.reply.Reply.TheVariants.{Asked, NoPath, Handed, TimedOut, Fault, Cancelled, Put, Placed, Settled, Gated, TimesSet, Left}
 use Rattle.inc_pending.specs.declared.timeouts.Times.{Times}
-use Rattle.inc_model.specs.State.{is_in, has, flight_row, IsOpening}
-use Rattle.inc_model.specs.Table.{reply_of, ask_reply}
-use Rattle.inc_model.specs.Changes.{ask_change, poll_change, cancel_change, put_data_change, put_place_change, settle_change, gate_change, times_change, leave_change, rest_change}
-use Rattle.inc_model.specs.Step.{Fits, Step, IsEntry, IsLegal, after_entry, state_after}
-use Rattle.inc_model.specs.ReadLaws.{asking, WasWaiting, IsNewRead, WasAsked}
+use Rattle.inc_model.specs.relation.State.{is_in, has, flight_row, IsOpening}
+use Rattle.inc_model.specs.relation.Table.{reply_of, ask_reply}
+use Rattle.inc_model.specs.relation.Changes.{ask_change, poll_change, cancel_change, put_data_change, put_place_change, settle_change, gate_change, times_change, leave_change, rest_change}
+use Rattle.inc_model.specs.relation.Step.{Fits, Step, IsEntry, IsLegal, after_entry, state_after}
+use Rattle.inc_model.specs.laws.ReadLaws.{asking, WasWaiting, IsNewRead, WasAsked}
 use Rattle.inc_model.proofs.lists.Members.{any_of}
 use Rattle.inc_model.proofs.runs.Histories.{after_one}
 

@@ -5,20 +5,20 @@ use Rattle.std.specs.List.{list_all}
 use Rattle.std.proofs.lemmas.Bool.{and_parts}
 use Rattle.std.proofs.lemmas.List.Recursion.{is_count_by}
 use Rattle.inc_pending.specs.Polling.{waits_on}
-use Rattle.inc_model.specs.declared.event.Event.{Event}
-use Rattle.inc_model.specs.declared.event.Event.TheVariants.{Ask, Poll, Cancel, Claim, PutData, PutPlace, Settle, Gate, Release, TakePending, SetTimes, Ranges, Count, Leave}
-use Rattle.inc_model.specs.declared.file_state.FileState.{FileState}
-use Rattle.inc_model.specs.declared.file_state.FlightRow.{FlightRow}
-use Rattle.inc_model.specs.declared.reply.Entry.{Entry}
-use Rattle.inc_model.specs.declared.reply.Reply.{Reply}
-use Rattle.inc_model.specs.declared.reply.Reply.TheVariants.{Fault}
-use Rattle.inc_model.specs.State.{flight_row}
-use Rattle.inc_model.specs.Stages.{is_at, is_settled}
-use Rattle.inc_model.specs.Table.{reply_of}
-use Rattle.inc_model.specs.Changes.{first_failure, gate_change, rest_change, change}
-use Rattle.inc_model.specs.Step.{Fits, Step, IsLegal, after_entry, state_after}
-use Rattle.inc_model.specs.StageLaws.{IsFault}
-use Rattle.inc_model.specs.FaultLaws.{is_written_by, is_fault, is_break, IsFirstBreak}
+use Rattle.inc_model.specs.declared.words.event.Event.{Event}
+use Rattle.inc_model.specs.declared.words.event.Event.TheVariants.{Ask, Poll, Cancel, Claim, PutData, PutPlace, Settle, Gate, Release, TakePending, SetTimes, Ranges, Count, Leave}
+use Rattle.inc_model.specs.declared.words.file_state.FileState.{FileState}
+use Rattle.inc_model.specs.declared.words.file_state.FlightRow.{FlightRow}
+use Rattle.inc_model.specs.declared.words.reply.Entry.{Entry}
+use Rattle.inc_model.specs.declared.words.reply.Reply.{Reply}
+use Rattle.inc_model.specs.declared.words.reply.Reply.TheVariants.{Fault}
+use Rattle.inc_model.specs.relation.State.{flight_row}
+use Rattle.inc_model.specs.relation.Stages.{is_at, is_settled}
+use Rattle.inc_model.specs.relation.Table.{reply_of}
+use Rattle.inc_model.specs.relation.Changes.{first_failure, gate_change, rest_change, change}
+use Rattle.inc_model.specs.relation.Step.{Fits, Step, IsLegal, after_entry, state_after}
+use Rattle.inc_model.specs.laws.StageLaws.{IsFault}
+use Rattle.inc_model.specs.laws.FaultLaws.{is_written_by, is_fault, is_break, IsFirstBreak}
 use Rattle.inc_model.proofs.facts_kept.Fill.{at_stage, may_gate}
 use Rattle.inc_model.proofs.steps.Faults.{faults_seen, faults_stay}
 

@@ -7,15 +7,15 @@ use Rattle.inc_pending.specs.declared.reads.ReadRow.{ReadRow}
 use Rattle.inc_tree.specs.Geometry.{level_counts}
 use Rattle.inc_pending.specs.declared.reads.Decision.{Decision}
 use Rattle.inc_pending.specs.declared.reads.Decision.TheVariants.{Stranger as no_read, Hand, TimedOut as late_decision, NotYet as waiting_decision}
-use Rattle.inc_model.specs.declared.event.Event.TheVariants.{Poll}
-use Rattle.inc_model.specs.declared.file_state.FileState.{FileState}
-use Rattle.inc_model.specs.declared.reply.Reply.TheVariants.{NoPath, Handed}
-use Rattle.inc_model.specs.State.{Digests}
-use Rattle.inc_model.specs.Polling.{levels_over, hash_on_path, is_hash_there, IsLowestAbsent, IsPathThere, absent_from, absent_hash, hand_reply, decided_reply, poll_reply}
-use Rattle.inc_model.specs.Step.{IsHanded}
-use Rattle.inc_model.specs.Facts.{FileFacts}
-use Rattle.inc_model.specs.WorldLaws.{IsHandedOut, LacksPath}
-use Rattle.inc_model.specs.Worlds.{Move, Does, beginning, world_after, IsWorld}
+use Rattle.inc_model.specs.declared.words.event.Event.TheVariants.{Poll}
+use Rattle.inc_model.specs.declared.words.file_state.FileState.{FileState}
+use Rattle.inc_model.specs.declared.words.reply.Reply.TheVariants.{NoPath, Handed}
+use Rattle.inc_model.specs.relation.State.{Digests}
+use Rattle.inc_model.specs.relation.Polling.{levels_over, hash_on_path, is_hash_there, IsLowestAbsent, IsPathThere, absent_from, absent_hash, hand_reply, decided_reply, poll_reply}
+use Rattle.inc_model.specs.relation.Step.{IsHanded}
+use Rattle.inc_model.specs.relation.Facts.{FileFacts}
+use Rattle.inc_model.specs.laws.WorldLaws.{IsHandedOut, LacksPath}
+use Rattle.inc_model.specs.histories.Worlds.{Move, Does, beginning, world_after, IsWorld}
 use Rattle.inc_model.proofs.steps.Polls.{done_is}
 use Rattle.inc_model.proofs.runs.Worlds.{world_facts, world_front, world_rest}
 

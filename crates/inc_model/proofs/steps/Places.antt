@@ -1,17 +1,17 @@
 -- The claimed places of one window, step by step.
 use Rattle.std.proofs.Common.{◌≡◌, ℕ, ◌+◌, ◌-◌, ◌<◌, ◌≤◌, Bool, false, cond, eqb, Option, Some, None, refl, sym, ap, subst, ◌∙◌, arith}
 use Rattle.std.proofs.lemmas.Bool.{ne_eqb, false_from_ne_true}
-use Rattle.inc_model.specs.declared.limits.TheConstants.{MOST_ENTRIES}
-use Rattle.inc_model.specs.declared.event.Event.{Event}
-use Rattle.inc_model.specs.declared.event.Event.TheVariants.{Ask, Poll, Cancel, Claim, PutData, PutPlace, Settle, Gate, Release, TakePending, SetTimes, Ranges, Count, Leave}
-use Rattle.inc_model.specs.declared.event.Window.{Window}
-use Rattle.inc_model.specs.declared.file_state.FileState.{FileState}
-use Rattle.inc_model.specs.declared.reply.Reply.{Reply}
-use Rattle.inc_model.specs.declared.reply.Reply.TheVariants.{Claimed}
-use Rattle.inc_model.specs.State.{Claims, is_same, places_left, all_places, WindowsRise}
-use Rattle.inc_model.specs.Changes.{window_of, claim_change, claims_after}
-use Rattle.inc_model.specs.Step.{HasRoom, needs, needs_beside, Step}
-use Rattle.inc_model.specs.HistoryLaws.{IsClaim, places_then}
+use Rattle.inc_model.specs.declared.words.limits.TheConstants.{MOST_ENTRIES}
+use Rattle.inc_model.specs.declared.words.event.Event.{Event}
+use Rattle.inc_model.specs.declared.words.event.Event.TheVariants.{Ask, Poll, Cancel, Claim, PutData, PutPlace, Settle, Gate, Release, TakePending, SetTimes, Ranges, Count, Leave}
+use Rattle.inc_model.specs.declared.words.event.Window.{Window}
+use Rattle.inc_model.specs.declared.words.file_state.FileState.{FileState}
+use Rattle.inc_model.specs.declared.words.reply.Reply.{Reply}
+use Rattle.inc_model.specs.declared.words.reply.Reply.TheVariants.{Claimed}
+use Rattle.inc_model.specs.relation.State.{Claims, is_same, places_left, all_places, WindowsRise}
+use Rattle.inc_model.specs.relation.Changes.{window_of, claim_change, claims_after}
+use Rattle.inc_model.specs.relation.Step.{HasRoom, needs, needs_beside, Step}
+use Rattle.inc_model.specs.laws.HistoryLaws.{IsClaim, places_then}
 use Rattle.inc_model.proofs.lists.Claims.{same_is, claim_other, spend_other, unclaim_other, claim_own, spend_own, unclaim_own}
 
 -- ---- room

@@ -7,17 +7,17 @@ use Rattle.inc_pending.specs.Keyed.{lookup, insert}
 use Rattle.inc_pending.specs.Polling.{is_asked, read_of, decision_of, decision, waits_on}
 use Rattle.inc_pending.specs.declared.reads.ReadRow.{ReadRow}
 use Rattle.inc_pending.specs.declared.reads.Decision.TheVariants.{Hand, TimedOut as late_decision, NotYet as waiting_decision}
-use Rattle.inc_model.specs.declared.event.Event.TheVariants.{Poll, Gate}
-use Rattle.inc_model.specs.declared.event.Window.{Window}
-use Rattle.inc_model.specs.declared.file_state.FileState.{FileState}
-use Rattle.inc_model.specs.declared.reply.Reply.TheVariants.{NoPath, Handed, TimedOut, NotYet, Gated}
-use Rattle.inc_model.specs.State.{Digests, is_in, flight_row}
-use Rattle.inc_model.specs.Stages.{is_at, is_settled}
-use Rattle.inc_model.specs.Polling.{levels_over, hash_on_path, is_hash_there, IsLowestAbsent, IsPathThere, absent_from, absent_hash, hand_reply, decided_reply, poll_reply}
-use Rattle.inc_model.specs.Changes.{change, opens, gate_change}
-use Rattle.inc_model.specs.Facts.{FileFacts}
-use Rattle.inc_model.specs.WorldLaws.{IsAskedRead, IsLate, Completes}
-use Rattle.inc_model.specs.Worlds.{Moment, Move, Does, beginning, world_after, IsWorld}
+use Rattle.inc_model.specs.declared.words.event.Event.TheVariants.{Poll, Gate}
+use Rattle.inc_model.specs.declared.words.event.Window.{Window}
+use Rattle.inc_model.specs.declared.words.file_state.FileState.{FileState}
+use Rattle.inc_model.specs.declared.words.reply.Reply.TheVariants.{NoPath, Handed, TimedOut, NotYet, Gated}
+use Rattle.inc_model.specs.relation.State.{Digests, is_in, flight_row}
+use Rattle.inc_model.specs.relation.Stages.{is_at, is_settled}
+use Rattle.inc_model.specs.relation.Polling.{levels_over, hash_on_path, is_hash_there, IsLowestAbsent, IsPathThere, absent_from, absent_hash, hand_reply, decided_reply, poll_reply}
+use Rattle.inc_model.specs.relation.Changes.{change, opens, gate_change}
+use Rattle.inc_model.specs.relation.Facts.{FileFacts}
+use Rattle.inc_model.specs.laws.WorldLaws.{IsAskedRead, IsLate, Completes}
+use Rattle.inc_model.specs.histories.Worlds.{Moment, Move, Does, beginning, world_after, IsWorld}
 use Rattle.inc_model.proofs.facts_kept.Fill.{AtStage, at_stage, gated_by}
 use Rattle.inc_model.proofs.runs.Worlds.{world_facts, world_front, world_rest, world_both}
 use Rattle.inc_model.proofs.lists.Sets.{lookup_new, lookup_other}

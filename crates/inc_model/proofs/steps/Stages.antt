@@ -5,22 +5,22 @@ use Rattle.std.proofs.lemmas.Bool.{eqb-true, false≢true}
 use Rattle.std.proofs.lemmas.List.Elements.{All-map, All-filter, All-contains_itself, filter_passes}
 use Rattle.inc_pending.specs.Polling.{waits_on}
 use Rattle.inc_pending.specs.declared.timeouts.Times.{Times}
-use Rattle.inc_model.specs.declared.event.Event.{Event}
-use Rattle.inc_model.specs.declared.event.Event.TheVariants.{Ask, Poll, Cancel, Claim, PutData, PutPlace, Settle, Gate, Release, TakePending, SetTimes, Ranges, Count, Leave}
-use Rattle.inc_model.specs.declared.event.Window.{Window}
-use Rattle.inc_model.specs.declared.file_state.FileState.{FileState}
-use Rattle.inc_model.specs.declared.file_state.FlightRow.{FlightRow}
-use Rattle.inc_model.specs.declared.file_state.Stage.{Stage}
-use Rattle.inc_model.specs.declared.file_state.Stage.TheVariants.{Written as written_stage, Placed as placed_stage, Settled as settled_stage, Gated as gated_stage}
-use Rattle.inc_model.specs.declared.reply.Reply.{Reply}
-use Rattle.inc_model.specs.declared.reply.Reply.TheVariants.{Asked, NoPath, Handed, TimedOut, Fault, Cancelled, Put, Placed, Settled, Gated, TimesSet, Left}
-use Rattle.inc_model.specs.State.{flight_row, is_same, FlightRises}
-use Rattle.inc_model.specs.Stages.{settled_stage as settles_to, is_written, is_settled, is_gated, is_at, written, placed_row, gated_row, synced_row}
-use Rattle.inc_model.specs.Table.{reply_of, unless_failed, place_reply, gate_reply}
-use Rattle.inc_model.specs.Changes.{ask_change, poll_change, cancel_change, put_data_change, put_place_change, settle_change, gate_change, times_change, leave_change, rest_change}
-use Rattle.inc_model.specs.Step.{Fits, Step}
-use Rattle.inc_model.specs.Facts.{FileFacts}
-use Rattle.inc_model.specs.StageLaws.{as_stage, CameTo}
+use Rattle.inc_model.specs.declared.words.event.Event.{Event}
+use Rattle.inc_model.specs.declared.words.event.Event.TheVariants.{Ask, Poll, Cancel, Claim, PutData, PutPlace, Settle, Gate, Release, TakePending, SetTimes, Ranges, Count, Leave}
+use Rattle.inc_model.specs.declared.words.event.Window.{Window}
+use Rattle.inc_model.specs.declared.words.file_state.FileState.{FileState}
+use Rattle.inc_model.specs.declared.words.file_state.FlightRow.{FlightRow}
+use Rattle.inc_model.specs.declared.words.file_state.Stage.{Stage}
+use Rattle.inc_model.specs.declared.words.file_state.Stage.TheVariants.{Written as written_stage, Placed as placed_stage, Settled as settled_stage, Gated as gated_stage}
+use Rattle.inc_model.specs.declared.words.reply.Reply.{Reply}
+use Rattle.inc_model.specs.declared.words.reply.Reply.TheVariants.{Asked, NoPath, Handed, TimedOut, Fault, Cancelled, Put, Placed, Settled, Gated, TimesSet, Left}
+use Rattle.inc_model.specs.relation.State.{flight_row, is_same, FlightRises}
+use Rattle.inc_model.specs.relation.Stages.{settled_stage as settles_to, is_written, is_settled, is_gated, is_at, written, placed_row, gated_row, synced_row}
+use Rattle.inc_model.specs.relation.Table.{reply_of, unless_failed, place_reply, gate_reply}
+use Rattle.inc_model.specs.relation.Changes.{ask_change, poll_change, cancel_change, put_data_change, put_place_change, settle_change, gate_change, times_change, leave_change, rest_change}
+use Rattle.inc_model.specs.relation.Step.{Fits, Step}
+use Rattle.inc_model.specs.relation.Facts.{FileFacts}
+use Rattle.inc_model.specs.laws.StageLaws.{as_stage, CameTo}
 use Rattle.inc_model.proofs.lists.Claims.{same_is}
 use Rattle.inc_model.proofs.facts_kept.Fill.{at_stage, placed_by, gated_by}
 use Rattle.inc_model.proofs.lists.Flight.{fly_all, row_alone}

@@ -5,22 +5,22 @@ use Rattle.std.proofs.lemmas.Bool.{eqb-true, true≢false, false_from_ne_true}
 use Rattle.std.proofs.lemmas.List.Elements.{All-map, All-filter, All-contains, filter_passes}
 use Rattle.inc_pending.specs.Keyed.{lookup}
 use Rattle.inc_pending.specs.Polling.{waits_on}
-use Rattle.inc_model.specs.declared.event.Event.{Event}
-use Rattle.inc_model.specs.declared.event.Event.TheVariants.{Ask, Poll, Cancel, Claim, PutData, PutPlace, Settle, Gate, Release, TakePending, SetTimes, Ranges, Count, Leave}
-use Rattle.inc_model.specs.declared.event.Window.{Window}
-use Rattle.inc_model.specs.declared.file_state.FileState.{FileState}
-use Rattle.inc_model.specs.declared.file_state.FlightRow.{FlightRow}
-use Rattle.inc_model.specs.declared.file_state.Stage.{Stage}
-use Rattle.inc_model.specs.declared.file_state.Stage.TheVariants.{Written as written_stage, Placed as placed_stage, Settled as settled_stage, Gated as gated_stage}
-use Rattle.inc_model.specs.declared.reply.Reply.{Reply}
-use Rattle.inc_model.specs.declared.reply.Reply.TheVariants.{Settled, Gated}
-use Rattle.inc_model.specs.State.{Digests, flight_row, has, is_in, FlightRises}
-use Rattle.inc_model.specs.Stages.{settled_stage as settles_to, is_gated, is_at, is_settled, synced_row, synced_flight, acknowledge}
-use Rattle.inc_model.specs.Table.{reply_of}
-use Rattle.inc_model.specs.Changes.{change, rest_change, gate_change}
-use Rattle.inc_model.specs.Step.{Fits, Step}
-use Rattle.inc_model.specs.Facts.{FileFacts}
-use Rattle.inc_model.specs.StageLaws.{as_stage, IsSynced, WasGated}
+use Rattle.inc_model.specs.declared.words.event.Event.{Event}
+use Rattle.inc_model.specs.declared.words.event.Event.TheVariants.{Ask, Poll, Cancel, Claim, PutData, PutPlace, Settle, Gate, Release, TakePending, SetTimes, Ranges, Count, Leave}
+use Rattle.inc_model.specs.declared.words.event.Window.{Window}
+use Rattle.inc_model.specs.declared.words.file_state.FileState.{FileState}
+use Rattle.inc_model.specs.declared.words.file_state.FlightRow.{FlightRow}
+use Rattle.inc_model.specs.declared.words.file_state.Stage.{Stage}
+use Rattle.inc_model.specs.declared.words.file_state.Stage.TheVariants.{Written as written_stage, Placed as placed_stage, Settled as settled_stage, Gated as gated_stage}
+use Rattle.inc_model.specs.declared.words.reply.Reply.{Reply}
+use Rattle.inc_model.specs.declared.words.reply.Reply.TheVariants.{Settled, Gated}
+use Rattle.inc_model.specs.relation.State.{Digests, flight_row, has, is_in, FlightRises}
+use Rattle.inc_model.specs.relation.Stages.{settled_stage as settles_to, is_gated, is_at, is_settled, synced_row, synced_flight, acknowledge}
+use Rattle.inc_model.specs.relation.Table.{reply_of}
+use Rattle.inc_model.specs.relation.Changes.{change, rest_change, gate_change}
+use Rattle.inc_model.specs.relation.Step.{Fits, Step}
+use Rattle.inc_model.specs.relation.Facts.{FileFacts}
+use Rattle.inc_model.specs.laws.StageLaws.{as_stage, IsSynced, WasGated}
 use Rattle.inc_model.proofs.lists.Flight.{row_at, row_absent, row_alone}
 use Rattle.inc_model.proofs.lists.Members.{filter_has, map_has}
 use Rattle.inc_model.proofs.lists.Sets.{both, lookup_other, found_in}

@@ -4,20 +4,20 @@ use Rattle.std.specs.Prelude.{All, Any, Contains, filter, map}
 use Rattle.std.proofs.lemmas.Bool.{or_left, eq-eqb, true≢false, true_from_ne_false}
 use Rattle.std.proofs.lemmas.List.Elements.{All-contains, All-contains_itself}
 use Rattle.inc_pending.specs.declared.timeouts.Times.{Times}
-use Rattle.inc_model.specs.declared.event.Event.{Event}
-use Rattle.inc_model.specs.declared.event.Event.TheVariants.{Ask, Poll, Cancel, Claim, PutData, PutPlace, Settle, Gate, Release, TakePending, SetTimes, Ranges, Count, Leave}
-use Rattle.inc_model.specs.declared.event.Window.{Window}
-use Rattle.inc_model.specs.declared.file_state.FileState.{FileState}
-use Rattle.inc_model.specs.declared.file_state.FlightRow.{FlightRow}
-use Rattle.inc_model.specs.declared.file_state.Stage.TheVariants.{Placed as placed_stage, Gated as gated_stage}
-use Rattle.inc_model.specs.declared.reply.Reply.{Reply}
-use Rattle.inc_model.specs.declared.reply.Reply.TheVariants.{Asked, NoPath, Handed, TimedOut, Fault, Cancelled, Put, Placed, Settled, Gated, TimesSet, Left}
-use Rattle.inc_model.specs.State.{has, flight_row, land, is_same, with_index}
-use Rattle.inc_model.specs.Stages.{is_gated, written, placed_row, gated_row, synced_flight, synced_row, acknowledge}
-use Rattle.inc_model.specs.Changes.{ask_change, poll_change, cancel_change, put_data_change, put_place_change, settle_change, gate_change, release_change, times_change, leave_change, rest_change, change}
-use Rattle.inc_model.specs.Step.{Step}
-use Rattle.inc_model.specs.StageLaws.{IsStillFlying, LeavesFlight}
-use Rattle.inc_model.specs.StageLaws.LeavesFlight.{Released as by_release, Acknowledged as by_sync}
+use Rattle.inc_model.specs.declared.words.event.Event.{Event}
+use Rattle.inc_model.specs.declared.words.event.Event.TheVariants.{Ask, Poll, Cancel, Claim, PutData, PutPlace, Settle, Gate, Release, TakePending, SetTimes, Ranges, Count, Leave}
+use Rattle.inc_model.specs.declared.words.event.Window.{Window}
+use Rattle.inc_model.specs.declared.words.file_state.FileState.{FileState}
+use Rattle.inc_model.specs.declared.words.file_state.FlightRow.{FlightRow}
+use Rattle.inc_model.specs.declared.words.file_state.Stage.TheVariants.{Placed as placed_stage, Gated as gated_stage}
+use Rattle.inc_model.specs.declared.words.reply.Reply.{Reply}
+use Rattle.inc_model.specs.declared.words.reply.Reply.TheVariants.{Asked, NoPath, Handed, TimedOut, Fault, Cancelled, Put, Placed, Settled, Gated, TimesSet, Left}
+use Rattle.inc_model.specs.relation.State.{has, flight_row, land, is_same, with_index}
+use Rattle.inc_model.specs.relation.Stages.{is_gated, written, placed_row, gated_row, synced_flight, synced_row, acknowledge}
+use Rattle.inc_model.specs.relation.Changes.{ask_change, poll_change, cancel_change, put_data_change, put_place_change, settle_change, gate_change, release_change, times_change, leave_change, rest_change, change}
+use Rattle.inc_model.specs.relation.Step.{Step}
+use Rattle.inc_model.specs.laws.StageLaws.{IsStillFlying, LeavesFlight}
+use Rattle.inc_model.specs.laws.StageLaws.LeavesFlight.{Released as by_release, Acknowledged as by_sync}
 use Rattle.inc_model.proofs.lists.Members.{any_of, filter_has, map_has, fly_has}
 use Rattle.inc_model.proofs.lists.Sets.{has_add}
 use Rattle.inc_model.proofs.facts_kept.Settle.{acknowledge_more}

@@ -7,20 +7,20 @@ use Rattle.inc_pending.specs.Times.{times_of}
 use Rattle.inc_pending.specs.Polling.{waits_on, marked, is_asked, asked_row}
 use Rattle.inc_pending.specs.declared.reads.ReadRow.{ReadRow}
 use Rattle.inc_pending.specs.declared.timeouts.Times.{Times}
-use Rattle.inc_model.specs.declared.event.Event.{Event}
-use Rattle.inc_model.specs.declared.event.Event.TheVariants.{Ask, Poll, Cancel, Claim, PutData, PutPlace, Settle, Gate, Release, TakePending, SetTimes, Ranges, Count, Leave}
-use Rattle.inc_model.specs.declared.event.Window.{Window}
-use Rattle.inc_model.specs.declared.file_state.FileState.{FileState}
-use Rattle.inc_model.specs.declared.file_state.FlightRow.{FlightRow}
-use Rattle.inc_model.specs.declared.reply.Reply.{Reply}
-use Rattle.inc_model.specs.declared.reply.Reply.TheVariants.{Asked, NoPath, Handed, TimedOut, Fault, Cancelled, Put, Placed, Settled, Gated, TimesSet, Left}
-use Rattle.inc_model.specs.State.{has, is_in, flight_row, with_index}
-use Rattle.inc_model.specs.Stages.{is_gated, is_settled, is_at, acknowledge}
-use Rattle.inc_model.specs.Table.{reply_of, unless_failed, gate_reply}
-use Rattle.inc_model.specs.Changes.{first_failure, ask_change, poll_change, cancel_change, put_data_change, put_place_change, settle_change, gate_change, times_change, leave_change, rest_change}
-use Rattle.inc_model.specs.Step.{Fits, may_fail, Step}
-use Rattle.inc_model.specs.WorldLaws.{Began}
-use Rattle.inc_model.specs.StageLaws.{HasSynced, WasGated, IsGate, IsOver, names_read, IsStillWaiting}
+use Rattle.inc_model.specs.declared.words.event.Event.{Event}
+use Rattle.inc_model.specs.declared.words.event.Event.TheVariants.{Ask, Poll, Cancel, Claim, PutData, PutPlace, Settle, Gate, Release, TakePending, SetTimes, Ranges, Count, Leave}
+use Rattle.inc_model.specs.declared.words.event.Window.{Window}
+use Rattle.inc_model.specs.declared.words.file_state.FileState.{FileState}
+use Rattle.inc_model.specs.declared.words.file_state.FlightRow.{FlightRow}
+use Rattle.inc_model.specs.declared.words.reply.Reply.{Reply}
+use Rattle.inc_model.specs.declared.words.reply.Reply.TheVariants.{Asked, NoPath, Handed, TimedOut, Fault, Cancelled, Put, Placed, Settled, Gated, TimesSet, Left}
+use Rattle.inc_model.specs.relation.State.{has, is_in, flight_row, with_index}
+use Rattle.inc_model.specs.relation.Stages.{is_gated, is_settled, is_at, acknowledge}
+use Rattle.inc_model.specs.relation.Table.{reply_of, unless_failed, gate_reply}
+use Rattle.inc_model.specs.relation.Changes.{first_failure, ask_change, poll_change, cancel_change, put_data_change, put_place_change, settle_change, gate_change, times_change, leave_change, rest_change}
+use Rattle.inc_model.specs.relation.Step.{Fits, may_fail, Step}
+use Rattle.inc_model.specs.laws.WorldLaws.{Began}
+use Rattle.inc_model.specs.laws.StageLaws.{HasSynced, WasGated, IsGate, IsOver, names_read, IsStillWaiting}
 use Rattle.inc_model.proofs.lists.Members.{any_of, filter_has, map_has}
 use Rattle.inc_model.proofs.lists.Sets.{has_add}
 use Rattle.inc_model.proofs.facts_kept.Settle.{acknowledge_more}

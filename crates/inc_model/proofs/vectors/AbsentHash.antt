@@ -2,12 +2,12 @@
 use Rattle.std.proofs.Common.{◌≡◌, ℕ, List, [], ◌∷◌, None, refl}
 use Rattle.inc_tree.specs.Geometry.{levels, level_counts}
 use Rattle.inc_ranges.specs.Runs.{runs_from}
-use Rattle.inc_model.specs.declared.event.Event.TheVariants.{Ask, Poll}
-use Rattle.inc_model.specs.declared.file_state.FileState.{FileState}
-use Rattle.inc_model.specs.declared.reply.Reply.{Reply}
-use Rattle.inc_model.specs.declared.reply.Reply.TheVariants.{Asked, NoPath, TimedOut, NotYet}
-use Rattle.inc_model.specs.Polling.{absent_hash, absent_from}
-use Rattle.inc_model.specs.Table.{presence}
+use Rattle.inc_model.specs.declared.words.event.Event.TheVariants.{Ask, Poll}
+use Rattle.inc_model.specs.declared.words.file_state.FileState.{FileState}
+use Rattle.inc_model.specs.declared.words.reply.Reply.{Reply}
+use Rattle.inc_model.specs.declared.words.reply.Reply.TheVariants.{Asked, NoPath, TimedOut, NotYet}
+use Rattle.inc_model.specs.relation.Polling.{absent_hash, absent_from}
+use Rattle.inc_model.specs.relation.Table.{presence}
 use Rattle.inc_model.proofs.vectors.Calls.{Call, asks, replies, state_then, used_up}
 
 abbrev digest_0 : List ℕ

@@ -3,14 +3,14 @@ use Rattle.std.proofs.Common.{ℕ, ◌+◌, Bool, true, false, cond, List, [], �
 use Rattle.std.specs.Prelude.{filter, nat_lt}
 use Rattle.inc_pending.specs.declared.reads.ReadRow.{ReadRow}
 use Rattle.inc_pending.specs.declared.timeouts.Times.{Times}
-use Rattle.inc_model.specs.declared.event.Event.{Event}
-use Rattle.inc_model.specs.declared.event.Window.{Window}
-use Rattle.inc_model.specs.declared.file_state.FileState.{FileState}
-use Rattle.inc_model.specs.declared.reply.Reply.{Reply}
-use Rattle.inc_model.specs.declared.reply.Reply.TheVariants.{NotYet, Fault}
-use Rattle.inc_model.specs.Table.{reply_of}
-use Rattle.inc_model.specs.Changes.{change}
-use Rattle.inc_model.specs.Step.{may_fail}
+use Rattle.inc_model.specs.declared.words.event.Event.{Event}
+use Rattle.inc_model.specs.declared.words.event.Window.{Window}
+use Rattle.inc_model.specs.declared.words.file_state.FileState.{FileState}
+use Rattle.inc_model.specs.declared.words.reply.Reply.{Reply}
+use Rattle.inc_model.specs.declared.words.reply.Reply.TheVariants.{NotYet, Fault}
+use Rattle.inc_model.specs.relation.Table.{reply_of}
+use Rattle.inc_model.specs.relation.Changes.{change}
+use Rattle.inc_model.specs.relation.Step.{may_fail}
 
 -- an event from a seat, and whether the device fails at it
 pub record Call : Type 0 where

@@ -2,12 +2,12 @@
 use Rattle.std.proofs.Common.{◌≡◌, ℕ, List, [], ◌∷◌, Some, None, refl}
 use Rattle.inc_tree.specs.Geometry.{levels, level_counts}
 use Rattle.inc_ranges.specs.Runs.{runs_from}
-use Rattle.inc_model.specs.declared.event.Event.TheVariants.{Ask, Poll, Claim, PutData, PutPlace, Settle, Gate, Release}
-use Rattle.inc_model.specs.declared.file_state.FileState.{FileState}
-use Rattle.inc_model.specs.declared.reply.Reply.{Reply}
-use Rattle.inc_model.specs.declared.reply.Reply.TheVariants.{Asked, Handed, TimedOut, Fault, Failed, Claimed, Put, Placed, Settled, Gated, Released}
-use Rattle.inc_model.specs.Polling.{absent_hash, absent_from}
-use Rattle.inc_model.specs.Table.{presence}
+use Rattle.inc_model.specs.declared.words.event.Event.TheVariants.{Ask, Poll, Claim, PutData, PutPlace, Settle, Gate, Release}
+use Rattle.inc_model.specs.declared.words.file_state.FileState.{FileState}
+use Rattle.inc_model.specs.declared.words.reply.Reply.{Reply}
+use Rattle.inc_model.specs.declared.words.reply.Reply.TheVariants.{Asked, Handed, TimedOut, Fault, Failed, Claimed, Put, Placed, Settled, Gated, Released}
+use Rattle.inc_model.specs.relation.Polling.{absent_hash, absent_from}
+use Rattle.inc_model.specs.relation.Table.{presence}
 use Rattle.inc_model.proofs.vectors.Calls.{Call, asks, fails, replies, state_then, used_up, window}
 use Rattle.inc_model.proofs.vectors.FailingFile.{digest_0, digest_1, digest_2, digest_3, the_id, start}
 

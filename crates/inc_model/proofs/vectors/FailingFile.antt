@@ -1,6 +1,6 @@
 -- A file of three blocks whose hash block is there, before a call to its device fails.
 use Rattle.std.proofs.Common.{ℕ, List, [], ◌∷◌, None}
-use Rattle.inc_model.specs.declared.file_state.FileState.{FileState}
+use Rattle.inc_model.specs.declared.words.file_state.FileState.{FileState}
 
 abbrev pub digest_0 : List ℕ
 digest_0 = 128 ∷ 39 ∷ 171 ∷ 188 ∷ 177 ∷ 127 ∷ 245 ∷ 164 ∷ 198 ∷ 191 ∷ 42 ∷ 90 ∷ 135 ∷ 97 ∷ 219 ∷ 210 ∷ 158 ∷ 70 ∷ 83 ∷ 54 ∷ 176 ∷ 191 ∷ 191 ∷ 155 ∷ 205 ∷ 119 ∷ 224 ∷ 216 ∷ 166 ∷ 34 ∷ 242 ∷ 255 ∷ []

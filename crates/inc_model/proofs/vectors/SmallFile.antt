@@ -4,12 +4,12 @@ use Rattle.std.proofs.Common.{◌≡◌, ℕ, true, false, List, [], ◌∷◌, 
 use Rattle.inc_pending.specs.declared.pending_record.PendingRecord.{PendingRecord}
 use Rattle.inc_tree.specs.Geometry.{levels, level_counts}
 use Rattle.inc_ranges.specs.Runs.{runs_from}
-use Rattle.inc_model.specs.declared.event.Event.TheVariants.{Ask, Poll, Cancel, Claim, PutData, PutPlace, Settle, Gate, Release, TakePending, SetTimes, Ranges, Count, Leave}
-use Rattle.inc_model.specs.declared.file_state.FileState.{FileState}
-use Rattle.inc_model.specs.declared.reply.Reply.{Reply}
-use Rattle.inc_model.specs.declared.reply.Reply.TheVariants.{OutOfRange, Damaged, Compressed, Asked, Stranger, Handed, TimedOut, NotYet, Cancelled, Claimed, Busy, Present, Put, Placed, Settled, Gated, Released, Taken, TimesSet, BadRange, Filled, Counted, Left}
-use Rattle.inc_model.specs.Polling.{absent_hash, absent_from}
-use Rattle.inc_model.specs.Table.{presence}
+use Rattle.inc_model.specs.declared.words.event.Event.TheVariants.{Ask, Poll, Cancel, Claim, PutData, PutPlace, Settle, Gate, Release, TakePending, SetTimes, Ranges, Count, Leave}
+use Rattle.inc_model.specs.declared.words.file_state.FileState.{FileState}
+use Rattle.inc_model.specs.declared.words.reply.Reply.{Reply}
+use Rattle.inc_model.specs.declared.words.reply.Reply.TheVariants.{OutOfRange, Damaged, Compressed, Asked, Stranger, Handed, TimedOut, NotYet, Cancelled, Claimed, Busy, Present, Put, Placed, Settled, Gated, Released, Taken, TimesSet, BadRange, Filled, Counted, Left}
+use Rattle.inc_model.specs.relation.Polling.{absent_hash, absent_from}
+use Rattle.inc_model.specs.relation.Table.{presence}
 use Rattle.inc_model.proofs.vectors.Calls.{Call, asks, replies, state_then, used_up, window, times}
 
 abbrev digest_0 : List ℕ

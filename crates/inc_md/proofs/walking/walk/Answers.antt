@@ -1,4 +1,4 @@
-use Rattle.std.proofs.Common.{arith, refl, None}
+use Rattle.std.proofs.Common.{◌≤◌, arith, refl, None}
 use Rattle.std.proofs.lemmas.Result.{err_from_is_err_and}
 use Rattle.inc_md.proofs.Chains.{read_start, read_more, fault_given, fault_found, end_given, end_chain, end_fault}
 use Rattle.inc_md.proofs.walking.walk.Goals as goal
@@ -7,6 +7,7 @@ pub loop-at-init : goal.loop-at-init
 loop-at-init g c = record {
   kept = refl;
   quiet = refl;
+  inside = record { status = tt; last = λ some. let none : 1 ≤ 0 = rw c.new.ensures.value at some in absurd (omega arith) };
   few = rw c.new.ensures.value (omega arith);
   read = read_start _ _ _ _ (λ i. record { map = None; signature = None; status = None; spans = c.new.ensures.value i; last = 0 });
 }
@@ -32,6 +33,7 @@ pub loop-at-preserved : goal.loop-at-preserved
 loop-at-preserved g c = record {
   kept = cc (c.in_ok-at.ensures.kept, c.loop-at.invariant.kept);
   quiet = cc (c.in_ok-at.ensures.cause.kept (λ e. cc), c.loop-at.invariant.quiet);
+  inside = c.in_ok-at.ensures.inside c.loop-at.invariant.inside;
   few = omega (arith, c.in_ok-at.ensures.more, c.in_ok-at.ensures.few);
   read = read_more _ c.args.len c.args.first c.loop-at.at c.in_ok-at.at c.loop-at.records c.read_record.new.records (omega arith)
       c.loop-at.invariant.read (rw c.loop-at.invariant.kept at c.in_ok-at.ensures.passed)

@@ -1,6 +1,0 @@
--- the windows before the place come before this one
-use Rattle.inc_model.proofs.lists.RowSlots.{AllBefore}
-use Rattle.inc_model.proofs.claims.place_of.Given as goal
-
-abbrev pub invariant-loop-i : goal.invariant-loop-i
-invariant-loop-i l = AllBefore l.claimed l.i l.window

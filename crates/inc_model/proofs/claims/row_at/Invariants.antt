@@ -1,6 +1,0 @@
--- the window has no row before the place
-use Rattle.inc_model.proofs.lists.RowSlots.{NoneSame}
-use Rattle.inc_model.proofs.claims.row_at.Given as goal
-
-abbrev pub invariant-loop-i : goal.invariant-loop-i
-invariant-loop-i l = NoneSame l.claimed l.i l.window

@@ -1,6 +1,0 @@
--- the keys before the place are lower
-use Rattle.inc_model.proofs.lists.KeySlots.{AllBelow}
-use Rattle.inc_model.proofs.keyed.place_of.Given as goal
-
-abbrev pub invariant-loop-i : goal.invariant-loop-i
-invariant-loop-i T l = AllBelow l.rows l.i l.key

@@ -1,0 +1,6 @@
+-- What contracts of the executed core speak of.
+pub mod CoreFacts
+pub mod CoreState
+pub mod IndexLists
+pub mod Places
+pub mod SlotRows
