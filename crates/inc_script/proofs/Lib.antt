@@ -1,0 +1,11 @@
+pub mod DraftLemmas
+pub mod FormLemmas
+pub mod LineLemmas
+pub mod NumeralLemmas
+pub mod ReadingLemmas
+pub mod ReportLemmas
+pub mod SaidLemmas
+pub mod SpanLemmas
+pub mod SpellingLemmas
+pub mod WordLemmas
+pub mod WrittenLemmas

@@ -1,0 +1,39 @@
+-- The number that decimal digits spell.
+use Rattle.std.proofs.Common.{◌≡◌, ℕ, ◌+◌, ◌-◌, ◌*◌, ◌<◌, ◌≤◌, true, false, List, [], ◌∷◌, length, Some, None, refl, ap, arith}
+use Rattle.std.specs.Prelude.{nat_le}
+use Rattle.std.proofs.lemmas.Bool.Decides.{nat_tests}
+use Rattle.inc_script.specs.Numerals.{is_numeral, numeral_from, numeral_of}
+
+is_le : (m n : ℕ) → m ≤ n → nat_le m n ≡ true
+is_le m n le = grind (arith, nat_tests)
+
+not_le : (m n : ℕ) → n < m → nat_le m n ≡ false
+not_le m n lt = grind (arith, nat_tests)
+
+-- more digits make no number smaller
+grows : (value : ℕ) (digits : List ℕ) → value ≤ numeral_from value digits
+grows value [] = omega arith
+grows value (digit ∷ digits) = let more = grows (10 * value + (digit - 48)) digits in omega arith
+
+pub not_a_numeral : (most : ℕ) (word : List ℕ) → is_numeral word ≡ false → numeral_of most word ≡ None
+unfolding numeral_of
+not_a_numeral most word is = rw is refl
+
+pub too_great : (most : ℕ) (word : List ℕ) (value digit : ℕ) (digits : List ℕ) → is_numeral word ≡ true → numeral_from value (digit ∷ digits) ≡ numeral_from 0 word
+    → most < 10 * value + (digit - 48) → numeral_of most word ≡ None
+unfolding numeral_of
+too_great most word value digit digits is same great =
+    let more = grows (10 * value + (digit - 48)) digits in
+    let over : most < numeral_from 0 word = omega (arith, same) in
+    rw (is, not_le (numeral_from 0 word) most over) refl
+
+small_enough : (most : ℕ) (word : List ℕ) (value : ℕ) → is_numeral word ≡ true → value ≡ numeral_from 0 word → value ≤ most → Some value ≡ numeral_of most word
+unfolding numeral_of
+small_enough most word value is same small =
+    let within : numeral_from 0 word ≤ most = omega (arith, same) in
+    rw (is, is_le (numeral_from 0 word) most within) (ap (λ (v : ℕ). Some v) same)
+
+-- no digit is left
+pub number_all : (most : ℕ) (word rest : List ℕ) (value : ℕ) → is_numeral word ≡ true → numeral_from value rest ≡ numeral_from 0 word → length rest < 1 → value ≤ most → Some value ≡ numeral_of most word
+number_all most word [] value is same none small = small_enough most word value is same small
+number_all most word (digit ∷ digits) value is same none small = absurd (omega arith)
