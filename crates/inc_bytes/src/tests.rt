@@ -43,6 +43,15 @@ fn numbers_are_appended(rt: HostRuntime) -> Result<(), Fail> {
 }
 
 #[test]
+fn a_decimal_number_is_read_where_it_fits(rt: HostRuntime) {
+    assert_eq!(rt; decimal_u32(b"4294967295"), Some(u32::MAX));
+    assert_eq!(rt; decimal_u32(b"4294967296"), None);
+    assert_eq!(rt; decimal_u64(b"18446744073709551615"), Some(u64::MAX));
+    assert_eq!(rt; decimal_u64(b"000000000000000000001"), None);
+    assert_eq!(rt; decimal_u64(b"1a"), None);
+}
+
+#[test]
 fn a_list_keeps_its_order(rt: HostRuntime) -> Result<(), Fail> {
     let first = Span { at: 1, len: 4 };
     let second = Span { at: 2, len: 4 };
