@@ -3,7 +3,7 @@ use Rattle.std.specs.Prelude.{◌≡◌, ◌==◌, ◌||◌, ℕ, nat_le, Bool, 
 use Rattle.std.specs.Option.{unwrap_or}
 use Rattle.std.specs.List.{list_any}
 use Rattle.std.specs.declared.alloc.Global.{Global}
-use Rattle.inc_io.specs.declared.schedule.Schedule.{Schedule}
+use Rattle.inc_io.specs.declared.memory.schedule.Schedule.{Schedule}
 use Rattle.inc_disk.specs.Disk.{DiskState, touched, overwritten, settled}
 use Rattle.inc_disk.specs.declared.history.Call.{Call}
 use Rattle.inc_disk.specs.declared.history.Call.TheVariants.{Wrote, Synced, NotSynced}

@@ -1,7 +1,7 @@
 -- The blocks of open entries lie inside the file.
 use Rattle.std.proofs.Common.{◌≡◌, ℕ, ◌+◌, ◌-◌, ◌*◌, ◌≤◌, true, false, cond, List, length, min, inl, inr, subst, arith}
 use Rattle.std.specs.Prelude.{nat_lt}
-use Rattle.inc_tree.specs.Geometry.{Shape, block_len, data_blocks}
+use Rattle.inc_tree.specs.shape.Geometry.{Shape, block_len, data_blocks}
 use Rattle.inc_entry.specs.Entry.{Places, entry_at, entry_from}
 use Rattle.inc_entry.specs.Stored.{class_at}
 use Rattle.inc_entry.specs.Table.{IsClass}

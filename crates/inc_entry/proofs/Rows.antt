@@ -2,7 +2,7 @@
 use Rattle.std.proofs.Common.{◌≡◌, ℕ, ◌<◌, Bool, true, false, cond, ◌||◌, eqb, ltb, refl, sym, ◌∙◌, arith, inl, inr}
 use Rattle.std.specs.Prelude.{not}
 use Rattle.std.proofs.lemmas.Bool.{leb-true, eqb-true, eqb-false, eq-eqb, ne_eqb, le-leb, lt-ltb, le-ltb, and_parts, and_from, or_cases, or_from, cases_lt}
-use Rattle.inc_tree.specs.Geometry.{data_blocks, block_len}
+use Rattle.inc_tree.specs.shape.Geometry.{data_blocks, block_len}
 use Rattle.inc_entry.specs.declared.classes.Class.TheVariants.{Closed, OpenAt, Compressed, Damaged}
 use Rattle.inc_entry.specs.declared.entry.Entry.{Entry}
 use Rattle.inc_entry.specs.Spans.{is_clear}

@@ -3,7 +3,7 @@
 use Rattle.std.specs.Prelude.{ℕ, ◌+◌, ◌-◌, ◌*◌, ◌%◌, Bool, ◌&&◌, ◌||◌, not, ◌==◌, nat_lt, nat_le, if◌then◌else◌, List, [], ◌∷◌, ◌++◌, slice_index}
 use Rattle.inc_bytes.specs.Fields.{le_number}
 use Rattle.inc_bytes.specs.declared.span.Span.{Span}
-use Rattle.inc_tree.specs.Geometry.{Shape, data_blocks, hash_blocks, block_len}
+use Rattle.inc_tree.specs.shape.Geometry.{Shape, data_blocks, hash_blocks, block_len}
 use Rattle.inc_entry.specs.declared.areas.Areas.{Areas}
 use Rattle.inc_entry.specs.declared.classes.Class.{Class}
 use Rattle.inc_entry.specs.declared.classes.Class.TheVariants.{Closed, OpenAt, Compressed, Damaged}

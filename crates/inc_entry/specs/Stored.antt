@@ -1,7 +1,7 @@
 -- What the bytes of a file say of the block of an index: its class, its own bytes at their place, and their digest.
 use Rattle.std.specs.Prelude.{ℕ, Bool, true, false, List, length, take, drop, Option, Some, None}
-use Rattle.inc_tree.specs.Geometry.{block_len}
-use Rattle.inc_tree.specs.Path.{block_digest}
+use Rattle.inc_tree.specs.shape.Geometry.{block_len}
+use Rattle.inc_tree.specs.read_block.Path.{block_digest}
 use Rattle.inc_entry.specs.Entry.{Places, class_of, entry_at, entry_from, past_end}
 use Rattle.inc_entry.specs.declared.classes.Class.{Class}
 use Rattle.inc_entry.specs.declared.classes.Class.TheVariants.{OpenAt, Compressed, Damaged}

@@ -1,6 +1,6 @@
 -- The classes of block map entries in words: one row each, and no entry is in two.
 use Rattle.std.specs.Prelude.{◌≡◌, ◌≢◌, ℕ, ◌+◌, ◌<◌, ◌≤◌, ◌⊎◌}
-use Rattle.inc_tree.specs.Geometry.{data_blocks, block_len}
+use Rattle.inc_tree.specs.shape.Geometry.{data_blocks, block_len}
 use Rattle.inc_entry.specs.declared.classes.Class.{Class}
 use Rattle.inc_entry.specs.declared.classes.Class.TheVariants.{Closed, OpenAt, Compressed, Damaged}
 use Rattle.inc_entry.specs.declared.entry.Entry.{Entry}

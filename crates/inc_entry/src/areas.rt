@@ -1,5 +1,5 @@
 ghost use Rattle.std.specs.Prelude.{◌≡◌, ◌+◌, ◌*◌, ◌<◌, ◌^◌};
-ghost use Rattle.inc_tree.specs.Geometry.{data_blocks, hash_blocks};
+ghost use Rattle.inc_tree.specs.shape.Geometry.{data_blocks, hash_blocks};
 ghost use Rattle.inc_entry.specs.Entry.{area_places, entries, map_span, tree_span, entry_at, fits, has_size, hash_block_place};
 
 use crate::is_clear;

@@ -1,5 +1,5 @@
 ghost use Rattle.std.specs.Prelude.{◌≡◌, ◌+◌, ◌-◌, ◌*◌, ◌<◌, ◌≤◌, ◌^◌, ◌==◌, nat_le, length};
-ghost use Rattle.inc_tree.specs.Geometry.{data_blocks, hash_blocks};
+ghost use Rattle.inc_tree.specs.shape.Geometry.{data_blocks, hash_blocks};
 ghost use Rattle.inc_entry.specs.Entry.{area_places, entries, hash_place, fits, has_size, asks, is_open, past_end, is_compressed, is_closed, class_of, entry_from, entry_size, entry_at};
 ghost use Rattle.inc_entry.specs.Table.{IsClass};
 

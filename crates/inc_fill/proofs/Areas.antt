@@ -5,7 +5,7 @@ use Rattle.std.proofs.lemmas.Bool.{and_parts, and_from, or_cases, eqb-true, eq-e
 use Rattle.std.proofs.lemmas.Bool.Decides.{nat_tests}
 use Rattle.std.proofs.lemmas.List.Elements.{All-head, All-tail}
 use Rattle.inc_bytes.specs.declared.span.Span.{Span}
-use Rattle.inc_tree.specs.Geometry.{data_blocks}
+use Rattle.inc_tree.specs.shape.Geometry.{data_blocks}
 use Rattle.inc_entry.specs.Spans.{IsClear, IsDisjoint, misses, is_clear}
 use Rattle.inc_entry.specs.Entry.{Places, areas_of, entries, entry_at, fits, hash_place, map_span, tree_span}
 use Rattle.inc_entry.specs.Spans.{AreApart, IsInside}

@@ -4,7 +4,7 @@ use Rattle.std.specs.Prelude.{nat_le, nat_lt, ◌==◌, not}
 use Rattle.std.proofs.lemmas.Bool.{and_parts, and_from, or_cases, eqb-true, leb-true, lt-ltb, le-ltb, cases_lt}
 use Rattle.std.proofs.lemmas.Bool.Decides.{nat_tests}
 use Rattle.inc_bytes.specs.declared.span.Span.{Span}
-use Rattle.inc_tree.specs.Geometry.{block_len, data_blocks}
+use Rattle.inc_tree.specs.shape.Geometry.{block_len, data_blocks}
 use Rattle.inc_entry.specs.Spans.{misses, is_clear}
 use Rattle.inc_entry.specs.Entry.{Places, areas_of, entry_size, fits, has_size, asks, is_open, past_end, is_compressed, is_closed, class_of}
 use Rattle.inc_entry.specs.declared.classes.Class.TheVariants.{Closed, OpenAt, Compressed, Damaged}

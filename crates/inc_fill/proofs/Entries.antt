@@ -3,8 +3,8 @@ use Rattle.std.proofs.Common.{◌≡◌, ℕ, ◌+◌, ◌^◌, ◌<◌, ◌≤�
 use Rattle.std.proofs.lemmas.List.{ext_get_or, get_or-take, get_or-drop}
 use Rattle.inc_bytes.specs.Fields.{le_number, le_bytes}
 use Rattle.inc_bytes.proofs.Numbers.{length-le_bytes, le_number-le_bytes}
-use Rattle.inc_tree.specs.Geometry.{block_len}
-use Rattle.inc_tree.specs.Path.{block_digest}
+use Rattle.inc_tree.specs.shape.Geometry.{block_len}
+use Rattle.inc_tree.specs.read_block.Path.{block_digest}
 use Rattle.inc_entry.specs.Entry.{Places, entry_from}
 use Rattle.inc_entry.specs.Stored.{digest_at}
 use Rattle.inc_entry.specs.Stored.{part}

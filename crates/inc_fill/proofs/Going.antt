@@ -3,8 +3,8 @@ use Rattle.std.proofs.Common.{◌≡◌, inl, inr, ℕ, ◌+◌, ◌^◌, ◌<�
 use Rattle.std.proofs.lemmas.Bool.{cases_lt}
 use Rattle.inc_bytes.specs.Fields.{le_bytes}
 use Rattle.inc_bytes.proofs.Numbers.{length-le_bytes}
-use Rattle.inc_tree.specs.Geometry.{block_len, data_blocks}
-use Rattle.inc_tree.specs.Path.{block_digest}
+use Rattle.inc_tree.specs.shape.Geometry.{block_len, data_blocks}
+use Rattle.inc_tree.specs.read_block.Path.{block_digest}
 use Rattle.inc_entry.specs.Entry.{Places, entries, entry_at, entry_from, fits}
 use Rattle.inc_disk.specs.Disk.{DiskState, IsImage, IsTorn, Now, SoundNow, overwritten, touched, Writes, Syncs}
 use Rattle.inc_disk.specs.Laws.{EachImage, Goes}

@@ -1,6 +1,6 @@
 -- From the facts of a disk to what each of its images keeps.
 use Rattle.std.proofs.Common.{◌≡◌, ◌⊎◌, inl, inr, ⊎_elim, ℕ, zero, suc, ◌+◌, ◌*◌, ◌<◌, ◌≤◌, Bool, true, false, List, length, get_or, Option, Some, sym, ◌∙◌, ap, subst, arith}
-use Rattle.inc_tree.specs.Geometry.{block_len}
+use Rattle.inc_tree.specs.shape.Geometry.{block_len}
 use Rattle.inc_entry.specs.Entry.{Places, class_of, entry_at, entry_from, entry_size, fits, has_size, past_end}
 use Rattle.inc_entry.specs.declared.classes.Class.{Class}
 use Rattle.inc_entry.specs.declared.classes.Class.TheVariants.{Closed, OpenAt, Compressed, Damaged}

@@ -2,7 +2,7 @@
 use Rattle.std.proofs.Common.{◌≡◌, ◌⊎◌, inl, inr, ℕ, ◌+◌, ◌^◌, ◌<◌, ◌≤◌, Bool, false, List, length, Option, Some, None, refl, sym, ◌∙◌, subst, arith}
 use Rattle.std.specs.Prelude.{◌==◌}
 use Rattle.std.proofs.lemmas.Bool.{ne_eqb, or_from}
-use Rattle.inc_tree.specs.Geometry.{block_len}
+use Rattle.inc_tree.specs.shape.Geometry.{block_len}
 use Rattle.inc_entry.specs.Entry.{Places, entries, entry_at, entry_from, entry_size, has_size}
 use Rattle.inc_entry.specs.Keeps.{IsLayout, Keeps, KeepsEntry, Kind, Acknowledged, Begun, KeptDamaged, KeptCompressed, Shut}
 use Rattle.inc_entry.specs.Stored.{class_at, digest_at, is_past}

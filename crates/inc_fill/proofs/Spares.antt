@@ -1,7 +1,7 @@
 -- Which bytes the writes of a fill spare: those of all other indices, and the fixed bytes.
 use Rattle.std.proofs.Common.{◌≡◌, inl, inr, ℕ, ◌+◌, ◌-◌, ◌<◌, ◌≤◌, Bool, true, false, subst, arith}
 use Rattle.std.proofs.lemmas.Bool.{cases_lt}
-use Rattle.inc_tree.specs.Geometry.{data_blocks}
+use Rattle.inc_tree.specs.shape.Geometry.{data_blocks}
 use Rattle.inc_entry.specs.Entry.{Places, entries, entry_at, hash_place, map_span, tree_span}
 use Rattle.inc_entry.specs.Keeps.{IsLayout}
 use Rattle.inc_entry.specs.Spans.{in_spans}

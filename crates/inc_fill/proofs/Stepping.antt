@@ -1,7 +1,7 @@
 -- The facts of a disk after each write of a fill, whole or torn.
 use Rattle.std.proofs.Common.{◌≡◌, ◌⊎◌, inl, inr, ℕ, ◌+◌, ◌-◌, ◌^◌, ◌<◌, ◌≤◌, Bool, true, false, List, length, Option, Some, refl, sym, ◌∙◌, subst, arith}
 use Rattle.std.proofs.lemmas.Bool.{cases_lt}
-use Rattle.inc_tree.specs.Geometry.{data_blocks}
+use Rattle.inc_tree.specs.shape.Geometry.{data_blocks}
 use Rattle.inc_entry.specs.Entry.{Places, entries, entry_at}
 use Rattle.inc_disk.specs.Disk.{DiskState, IsTorn, touched}
 use Rattle.inc_entry.specs.Keeps.{IsLayout, Kind, Begun, Shut}

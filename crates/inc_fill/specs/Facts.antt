@@ -3,7 +3,7 @@
 -- A byte is clean where every crash leaves what a read gives. Each fact below speaks of one index, and of the ten bytes of its entry and
 -- the bytes of its block alone: so a write to the bytes of one index keeps the facts of all others, however many fills are on their way.
 use Rattle.std.specs.Prelude.{◌≡◌, ◌⊎◌, ℕ, ◌+◌, ◌^◌, ◌<◌, ◌≤◌, Bool, true, false, List, length, slice_index, Option, Some, None}
-use Rattle.inc_tree.specs.Geometry.{block_len}
+use Rattle.inc_tree.specs.shape.Geometry.{block_len}
 use Rattle.inc_entry.specs.Entry.{Places, class_of, entries, entry_at, entry_from, entry_size, fits, has_size, past_end}
 use Rattle.inc_entry.specs.declared.classes.Class.{Class}
 use Rattle.inc_entry.specs.declared.classes.Class.TheVariants.{OpenAt, Compressed, Damaged}

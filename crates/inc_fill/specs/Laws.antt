@@ -1,6 +1,6 @@
 -- What holds of the facts of a fill besides its steps.
 use Rattle.std.specs.Prelude.{◌≡◌, ◌⊎◌, ℕ, ◌+◌, ◌^◌, ◌<◌, ◌≤◌, Bool, false, List, length, Option, Some, None}
-use Rattle.inc_tree.specs.Geometry.{block_len}
+use Rattle.inc_tree.specs.shape.Geometry.{block_len}
 use Rattle.inc_entry.specs.Entry.{Places, entries}
 use Rattle.inc_entry.specs.Keeps.{IsLayout, Keeps, Kind, Acknowledged, Begun, KeptDamaged, KeptCompressed, Shut}
 use Rattle.inc_entry.specs.Stored.{class_at, digest_at, is_past}

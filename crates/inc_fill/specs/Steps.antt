@@ -2,8 +2,8 @@
 -- file, and whatever other fills are on their way.
 use Rattle.std.specs.Prelude.{◌≡◌, ℕ, ◌+◌, ◌^◌, ◌<◌, ◌≤◌, Bool, true, false, List, ◌++◌, length, take, Option, Some, None, Result}
 use Rattle.inc_bytes.specs.Fields.{le_bytes}
-use Rattle.inc_tree.specs.Geometry.{block_len, data_blocks}
-use Rattle.inc_tree.specs.Path.{block_digest}
+use Rattle.inc_tree.specs.shape.Geometry.{block_len, data_blocks}
+use Rattle.inc_tree.specs.read_block.Path.{block_digest}
 use Rattle.inc_entry.specs.Entry.{Places, entries, entry_at, hash_place}
 use Rattle.inc_disk.specs.Disk.{DiskState, Now}
 use Rattle.inc_disk.specs.Laws.{Goes}

@@ -1,5 +1,5 @@
 ghost use Rattle.std.specs.Prelude.{◌≡◌, ◌≤◌, take, length, IfOk};
-ghost use Rattle.inc_tree.specs.Path.{padded};
+ghost use Rattle.inc_tree.specs.read_block.Path.{padded};
 
 use crate::OutOfMemory;
 use inc_tree::{BLOCK_SIZE, Block};

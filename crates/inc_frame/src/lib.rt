@@ -4,12 +4,18 @@
 //! What it has given after any calls is what the joined bytes hold, however they were cut.
 #![tactic(auto)]
 
+// The words of a stream.
 mod fault;
-mod laws;
 mod piece;
+
+// Reading it, and what holds of every stream.
+mod laws;
 mod reader;
 mod reading;
 mod stage;
+mod stage_steps;
+
+// Writing it.
 mod writing;
 
 pub use fault::FrameFault;

@@ -4,8 +4,8 @@ ghost use Rattle.inc_frame.specs.Frames.{IsPiece, end_bytes, frame_bytes, hello_
 ghost use Rattle.inc_frame.specs.Fronts.{Ended, Framing, Greeting, front_from, joined_front, no_piece, within_limit};
 ghost use Rattle.inc_frame.specs.Requests.{request_bytes, request_bytes2, request_hello_bytes};
 
-use crate::reading::{END, FRAME, HELLO};
 use crate::stage::{HEAD_LEN, HELLO_LEN, MOST_BYTES};
+use crate::stage_steps::{END, FRAME, HELLO};
 use crate::{OutOfMemory, Piece};
 use inc_bytes::Id;
 use inc_io::Bytes;

@@ -4,43 +4,24 @@
 //! faults rose. The memory forms tell everything, so tests and proofs can speak of their bytes.
 #![tactic(auto)]
 
-mod backing;
-mod bell;
+// The words of the traits: bytes, names, faults.
 mod bytes;
-mod clock;
 mod failed;
-mod gate;
-mod memory_bell;
-mod memory_file;
-mod memory_sink;
-mod memory_source;
 mod name;
-mod open_gate;
-mod part;
-mod schedule;
-mod shelf;
-mod sink;
-mod source;
-mod step_clock;
 
-pub use backing::Backing;
-pub use bell::Bell;
+// The traits of what is handed in, and their forms in memory.
+mod memory;
+mod outside;
+
+// What only several threads need.
+mod threads;
+
 pub use bytes::Bytes;
-pub use clock::Clock;
 pub use failed::{Failed, LendFault};
-pub use gate::Gate;
-pub use memory_bell::MemBell;
-pub use memory_file::MemFile;
-pub use memory_sink::MemSink;
-pub use memory_source::MemSource;
+pub use memory::{MemFile, MemSink, MemSource, Schedule, copy_part};
 pub use name::{Name, NameList, has_name, remove_name};
-pub use open_gate::OpenGate;
-pub use part::copy_part;
-pub use schedule::Schedule;
-pub use shelf::ReadShelf;
-pub use sink::Sink;
-pub use source::Source;
-pub use step_clock::StepClock;
+pub use outside::{Backing, ReadShelf, Sink, Source};
+pub use threads::{Bell, Clock, Gate, MemBell, OpenGate, StepClock};
 
 /// The one answer that no clause ties to a cause: the allocator refused.
 pub type OutOfMemory = std::alloc::AllocError;

@@ -4,7 +4,7 @@ use Rattle.std.proofs.Math.ListN.{get_or-append}
 use Rattle.std.proofs.Math.Seq.{get_or-append_seam}
 use Rattle.std.proofs.lemmas.Bool.{cases_lt}
 use Rattle.std.proofs.lemmas.List.{ext_get_or}
-use Rattle.inc_layout.specs.Listed.{IsFirst, first_below, found_or, listed}
+use Rattle.inc_layout.specs.opening.Listed.{IsFirst, first_below, found_or, listed}
 
 pub length-listed : {T : Type 0} (value : ℕ → T) (count : ℕ) → length (listed value count) ≡ count
 unfolding listed

@@ -5,17 +5,17 @@ use Rattle.std.proofs.Math.ListN.{get_or-append}
 use Rattle.std.proofs.Math.Seq.{get_or-append_seam, take-append_seam}
 use Rattle.std.proofs.lemmas.Bool.{cases_lt}
 use Rattle.std.proofs.lemmas.List.{append-nil, drop-replicate}
-use Rattle.inc_tree.specs.Geometry.{data_blocks, depth, hash_blocks, path_block}
-use Rattle.inc_tree.specs.Path.{padded}
+use Rattle.inc_tree.specs.shape.Geometry.{data_blocks, depth, hash_blocks, path_block}
+use Rattle.inc_tree.specs.read_block.Path.{padded}
 use Rattle.inc_entry.specs.Entry.{Places, area_places, entries, hash_block_place, tree_span}
 use Rattle.inc_entry.specs.Spans.{IsInside}
 use Rattle.inc_entry.specs.Stored.{class_at, digest_of, is_open_class, part, stored_digest}
 use Rattle.inc_entry.specs.declared.areas.Areas.{Areas}
 use Rattle.inc_entry.specs.declared.classes.Class.{Class}
 use Rattle.inc_entry.specs.declared.classes.Class.TheVariants.{Damaged}
-use Rattle.inc_layout.specs.Listed.{first_below, listed}
-use Rattle.inc_layout.specs.StaticRead.{class_in, first_missing, hash_block, is_missing, missing_error}
-use Rattle.inc_layout.specs.declared.static_error.StaticError.TheVariants.{PathAbsent}
+use Rattle.inc_layout.specs.opening.Listed.{first_below, listed}
+use Rattle.inc_layout.specs.reading.StaticRead.{class_in, first_missing, hash_block, is_missing, missing_error}
+use Rattle.inc_layout.specs.declared.reading.static_error.StaticError.TheVariants.{PathAbsent}
 use Rattle.inc_layout.proofs.ListedLemmas.{first_found, listed_at, listed_more, none_more}
 
 -- ---- the digests of stored blocks

@@ -6,8 +6,8 @@ use Rattle.inc_entry.specs.Entry.{Places, area_places, entries}
 use Rattle.inc_entry.specs.Stored.{class_at, is_past, stored_digest}
 use Rattle.inc_entry.specs.declared.areas.Areas.{Areas}
 use Rattle.inc_entry.specs.declared.classes.Class.TheVariants.{Damaged}
-use Rattle.inc_layout.specs.Fixed.{Fixed, IsFixed, fixed_of}
-use Rattle.inc_layout.specs.Listed.{first_below, listed}
+use Rattle.inc_layout.specs.fixed.Fixed.{Fixed, IsFixed, fixed_of}
+use Rattle.inc_layout.specs.opening.Listed.{first_below, listed}
 use Rattle.inc_layout.specs.declared.fault.LayoutFault.{LayoutFault}
 use Rattle.inc_layout.specs.declared.fault.LayoutFault.TheVariants.{PlacePastEnd}
 use Rattle.inc_layout.specs.declared.opened.Layout.{Layout}

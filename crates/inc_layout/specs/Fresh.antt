@@ -19,9 +19,10 @@
 --     146             block map: ten zeros for each data block
 use Rattle.std.specs.Prelude.{◌≡◌, ◌==◌, ℕ, ◌+◌, ◌-◌, ◌*◌, ◌/◌, ◌<◌, ◌≤◌, if◌then◌else◌, List, ◌∷◌, ◌++◌, length, replicate, Option, Some, None, Result, Ok, Err, IsOk, slice_index_or}
 use Rattle.inc_bytes.specs.Fields.{le_bytes}
-use Rattle.inc_tree.specs.Geometry.{Shape, blocks_of, data_blocks, hash_blocks}
-use Rattle.inc_tree.specs.Limits.{most_size}
+use Rattle.inc_tree.specs.shape.Geometry.{Shape, blocks_of, data_blocks, hash_blocks}
+use Rattle.inc_tree.specs.shape.Limits.{most_size}
 use Rattle.inc_header.specs.Header.{header_bytes}
+use Rattle.inc_header.specs.declared.reading.TheConstants.{HEADER_LEN}
 use Rattle.inc_header.specs.declared.header.Header.{Header}
 use Rattle.inc_header.specs.declared.header.HeaderKind.TheVariants.{Plain}
 use Rattle.inc_signature.specs.Signature.{signature_of}
@@ -32,7 +33,7 @@ use Rattle.inc_entry.specs.declared.classes.Class.TheVariants.{Closed, Damaged}
 use Rattle.inc_md.specs.declared.kinds.TheConstants.{MAP_KIND, MAP_RECORD_SIZE, SIGNATURE_KIND, SIGNATURE_RECORD_SIZE, STATUS_KIND, STATUS_RECORD_SIZE}
 use Rattle.inc_layout.specs.Backing.{IsBackingFile}
 use Rattle.inc_entry.specs.Entry.{block_bytes, entry_bytes}
-use Rattle.inc_layout.specs.Fixed.{shape_for}
+use Rattle.inc_layout.specs.fixed.Fixed.{shape_for}
 use Rattle.inc_layout.specs.declared.fresh.FreshFault.{FreshFault}
 use Rattle.inc_layout.specs.declared.fresh.FreshImage.{FreshImage}
 use Rattle.inc_layout.specs.declared.fresh.FreshFault.TheVariants as fault
@@ -40,21 +41,21 @@ use Rattle.inc_layout.specs.declared.opened.Opened.{Opened}
 
 -- ---- places, for a content of this shape and a blob of `blob_size` bytes
 
--- where the records stand, and what comes behind them
+-- where the records stand, each behind the one before it, and what comes behind them
 abbrev pub map_record_place : ℕ
-map_record_place = 56
+map_record_place = HEADER_LEN
 
 abbrev pub second_record_place : ℕ
-second_record_place = 91
+second_record_place = map_record_place + MAP_RECORD_SIZE
 
 abbrev pub third_record_place : ℕ
-third_record_place = 138
+third_record_place = second_record_place + SIGNATURE_RECORD_SIZE
 
 abbrev pub blob_place : ℕ
-blob_place = 193
+blob_place = third_record_place + STATUS_RECORD_SIZE
 
 abbrev pub unsigned_map_place : ℕ
-unsigned_map_place = 146
+unsigned_map_place = second_record_place + STATUS_RECORD_SIZE
 
 -- the entries of a map
 abbrev pub entry_count : Shape → ℕ

@@ -1,5 +1,5 @@
 ghost use Rattle.std.specs.Prelude.{◌≡◌};
-ghost use Rattle.inc_layout.specs.Faults.{chain_fault, signature_fault};
+ghost use Rattle.inc_layout.specs.opening.Faults.{chain_fault, signature_fault};
 ghost use Rattle.inc_layout.specs.declared.fault.LayoutFault.TheVariants.{Header as header_fault, OutOfMemory as out_of_memory, ReadFault as read_fault};
 
 use inc_header::HeaderFault;

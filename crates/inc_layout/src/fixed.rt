@@ -1,11 +1,11 @@
-ghost use Rattle.std.specs.Prelude.{◌≡◌, ◌≤◌, ◌^◌, length, is_some, IfOk, IfSome, Ok};
+ghost use Rattle.std.specs.Prelude.{◌≡◌, ◌≤◌, ◌^◌, length, is_some, IfErr, IfOk, IfSome, Ok};
 ghost use Rattle.inc_io.specs.Causes.{HasCauseAt};
 ghost use Rattle.inc_md.specs.Inside.{AreRecordsInside};
 ghost use Rattle.inc_signature.specs.Signature.{signature_of};
-ghost use Rattle.inc_layout.specs.Faults.{GivesOpening};
-ghost use Rattle.inc_layout.specs.Fixed.{IsHeaderOf, blob_in, blob_span, fixed_of, sig_in, with_chain, with_plain};
+ghost use Rattle.inc_layout.specs.opening.Faults.{GivesOpening, IsOwnFault};
+ghost use Rattle.inc_layout.specs.fixed.Fixed.{IsHeaderOf, blob_in, blob_span, fixed_of, sig_in, with_chain, with_plain};
 ghost use Rattle.inc_entry.specs.Spans.{IsInside};
-ghost use Rattle.inc_layout.specs.Told.{GivesBlob, GivesFixed, GivesFront, IsPlaced};
+ghost use Rattle.inc_layout.specs.fixed.Told.{GivesBlob, GivesFixed, GivesFront, IsPlaced};
 ghost use Rattle.inc_layout.specs.declared.fault.LayoutFault.TheVariants.{ReadFault as read_fault};
 
 use crate::LayoutFault;
@@ -36,6 +36,7 @@ pub fn open_fixed<B: Backing>(alloc: Global, file: &mut B) -> Result<FixedPart, 
     ensures short { IfOk result (λ part. part.areas.len ≤ 2 ^ 47) }
     ensures kept { B.kept file.new ≡ B.kept file.old }
     ensures cause { HasCauseAt read_fault (B.faults file.old) (B.faults file.new) result }
+    ensures own { IfErr result (λ fault. IsOwnFault fault) }
 {
     let front = read_front(file)?;
     let plain = plain_front(front)?;
@@ -51,6 +52,7 @@ pub fn read_front<B: Backing>(file: &mut B) -> Result<Front, LayoutFault>
     ensures short { IfOk result (λ front. front.len ≤ 2 ^ 47) }
     ensures kept { B.kept file.new ≡ B.kept file.old }
     ensures cause { HasCauseAt read_fault (B.faults file.old) (B.faults file.new) result }
+    ensures own { IfErr result (λ fault. IsOwnFault fault) }
 {
     let len = file.len()?;
     if len > MOST_LENGTH {
@@ -63,6 +65,7 @@ pub fn read_front<B: Backing>(file: &mut B) -> Result<Front, LayoutFault>
 }
 
 /// What comes after the header.
+#[tactic(auto, using(crate::proofs::fixed_part::OwnFaults::own_chain))]
 fn open_chain<B: Backing>(
     alloc: Global,
     file: &mut B,
@@ -74,6 +77,7 @@ fn open_chain<B: Backing>(
     ensures len { IfOk result (λ part. part.areas.len ≡ plain.len) }
     ensures kept { B.kept file.new ≡ B.kept file.old }
     ensures cause { HasCauseAt read_fault (B.faults file.old) (B.faults file.new) result }
+    ensures own { IfErr result (λ fault. IsOwnFault fault) }
 {
     let needs_map = plain.flat.data_blocks() > 0;
     let records = walk(alloc, file, plain.len, plain.first, needs_map)?;
@@ -94,6 +98,7 @@ fn open_signature<B: Backing>(
     ensures len { IfOk result (λ part. part.areas.len ≡ plain.len) }
     ensures kept { B.kept file.new ≡ B.kept file.old }
     ensures cause { HasCauseAt read_fault (B.faults file.old) (B.faults file.new) result }
+    ensures own { IfErr result (λ fault. IsOwnFault fault) }
 {
     let sig = read_sig(alloc, file, plain.len, records.signature)?;
     with_areas(alloc, plain, records, sig)
@@ -111,6 +116,7 @@ fn read_sig<B: Backing>(
     ensures signed { IfOk result (λ sig. is_some signature ≡ is_some sig) }
     ensures kept { B.kept file.new ≡ B.kept file.old }
     ensures cause { HasCauseAt read_fault (B.faults file.old) (B.faults file.new) result }
+    ensures own { IfErr result (λ fault. IsOwnFault fault) }
 {
     let Some(signature) = signature else {
         return Ok(None);
@@ -119,6 +125,7 @@ fn read_sig<B: Backing>(
     Ok(Some(read_blob(alloc, file, &signature)?))
 }
 
+#[tactic(auto, using(crate::proofs::fixed_part::OwnFaults::own_signature))]
 fn read_blob<B: Backing>(
     alloc: Global,
     file: &mut B,
@@ -128,6 +135,7 @@ fn read_blob<B: Backing>(
         GivesBlob result (signature_of (blob_in bytes signature.now))) }
     ensures kept { B.kept file.new ≡ B.kept file.old }
     ensures cause { HasCauseAt read_fault (B.faults file.old) (B.faults file.new) result }
+    ensures own { IfErr result (λ fault. IsOwnFault fault) }
 {
     let mut blob = room_of(alloc, signature.sig_size as usize)?;
     if signature.sig_size > 0 {

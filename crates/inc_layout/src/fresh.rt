@@ -1,5 +1,5 @@
 ghost use Rattle.std.specs.Prelude.{◌≡◌, ◌≤◌, None, Some, length, IfOk};
-ghost use Rattle.inc_tree.specs.Geometry.{tree_of};
+ghost use Rattle.inc_tree.specs.shape.Geometry.{tree_of};
 ghost use Rattle.inc_signature.specs.Signature.{signature_of};
 ghost use Rattle.inc_layout.specs.Fresh.{GivesSignature, GivesSize, HasNoBlob, IsFreshFile, IsFreshImage, fresh_fault, fresh_length, fresh_of, image_of, unsigned_length, unsigned_of};
 ghost use Rattle.inc_layout.specs.declared.fresh.FreshFault.TheVariants.{OutOfMemory as out_of_memory};

@@ -1,7 +1,7 @@
 // What stays of a backing file while it is filled, and of its state while it is opened, as contracts of functions that do nothing.
-ghost use Rattle.inc_layout.specs.Preserves.{KeepsPreserve};
-ghost use Rattle.inc_layout.specs.Reopening.{HasParts, KindsAgree};
-ghost use Rattle.inc_layout.specs.SameFixed.{FixedStays};
+ghost use Rattle.inc_layout.specs.state.Preserves.{KeepsPreserve};
+ghost use Rattle.inc_layout.specs.state.Reopening.{HasParts, KindsAgree};
+ghost use Rattle.inc_layout.specs.fixed.SameFixed.{FixedStays};
 
 /// A file that agrees with another on header, records and blob, but for the status record's two counts, and is no shorter has the same
 /// fixed part. So what a fill writes, and what a crash leaves of it, can't change where anything lies.

@@ -6,31 +6,23 @@
 //! file, which has no root, only as an `Unproved` one.
 #![tactic(auto)]
 
-// what an opening gives
+// What an opening gives.
 mod fault;
 mod mounted;
 mod opened;
 
-// opening
-mod block_map;
+// Opening a file: what never moves, then its map and its stored blocks.
 mod fixed;
 mod opening;
 mod room;
-mod stored;
 
-// reading and checking a block
-mod block;
-mod checking;
-mod static_error;
-mod static_read;
-mod stored_error;
+// Reading and checking a block of it.
+mod reading;
 
-// a new file, and what stays of one
+// A new file, and what stays of one.
 mod fresh;
 mod laws;
 
-pub use block::read_stored;
-pub use checking::{KeptPath, check_opened};
 pub use fault::LayoutFault;
 pub use fixed::{Front, read_front};
 pub use fresh::{FreshFault, FreshImage, fresh_image, fresh_unsigned};
@@ -38,8 +30,9 @@ pub use laws::{fixed_part_stays, kept_images_preserve, kinds_agree, opened_files
 pub use mounted::Mounted;
 pub use opened::{ClassList, DigestList, Layout, Opened};
 pub use opening::{open_digests, open_layout, open_shape};
-pub use static_error::StaticError;
-pub use static_read::{read_laid, read_opened, show_laid, show_opened};
-pub use stored_error::StoredError;
+pub use reading::{
+    KeptPath, StaticError, StoredError, check_opened, read_laid, read_opened, read_stored,
+    show_laid, show_opened,
+};
 
 type OutOfMemory = std::alloc::AllocError;

@@ -4,20 +4,23 @@ ghost use Rattle.inc_entry.specs.Entry.{area_places, areas_of, entries};
 ghost use Rattle.inc_entry.specs.Spans.{AreApart};
 ghost use Rattle.inc_entry.specs.Stored.{is_past};
 ghost use Rattle.inc_layout.specs.Backing.{IsBackingFile, IsLaidOut, laid_of, layout_in, opened_of, opened_with};
-ghost use Rattle.inc_layout.specs.Faults.{GivesOpening};
-ghost use Rattle.inc_layout.specs.Opening.{Accepts, IsLeastPast, IsSoundLayout, IsSoundOpened, layout_with};
+ghost use Rattle.inc_layout.specs.opening.Faults.{GivesOpening, IsOwnFault};
+ghost use Rattle.inc_layout.specs.opening.Opening.{Accepts, IsLeastPast, IsSoundLayout, IsSoundOpened, layout_with};
 ghost use Rattle.inc_layout.specs.declared.fault.LayoutFault.TheVariants.{OutOfMemory as out_of_memory, ReadFault as read_fault};
 ghost use Rattle.inc_layout.specs.declared.opened.Layout.{Layout};
 ghost use Rattle.inc_layout.specs.declared.opened.Opened.{Opened};
 
-use crate::block_map::read_classes;
+mod block_map;
+mod stored;
+
 use crate::fixed::{FixedPart, open_fixed};
-use crate::stored::read_digests;
 use crate::{ClassList, DigestList, Layout, LayoutFault, Opened};
+use block_map::read_classes;
 use inc_entry::Class;
 use inc_io::Backing;
 use inc_tree::Digest32;
 use std::alloc::Global;
+use stored::read_digests;
 
 /// Opens any backing file without reading a block of it, or answers the first test that it fails.
 ///
@@ -34,6 +37,7 @@ pub fn open_shape<B: Backing>(alloc: Global, file: &mut B) -> Result<Layout, Lay
     ensures areas { IfOk result (λ layout. IsSoundLayout layout) }
     ensures kept { B.kept file.new ≡ B.kept file.old }
     ensures cause { HasCauseAt read_fault (B.faults file.old) (B.faults file.new) result }
+    ensures own { IfErr result (λ fault. IsOwnFault fault) }
 {
     let part = open_fixed(alloc, file)?;
     let classes = read_classes(alloc, file, &part.areas)?;
@@ -60,6 +64,7 @@ pub fn open_layout<B: Backing>(alloc: Global, file: &mut B) -> Result<Opened, La
     ensures areas { IfOk result (λ opened. IsSoundOpened opened) }
     ensures kept { B.kept file.new ≡ B.kept file.old }
     ensures cause { HasCauseAt read_fault (B.faults file.old) (B.faults file.new) result }
+    ensures own { IfErr result (λ fault. IsOwnFault fault) }
 {
     let layout = open_shape(alloc, file)?;
     open_digests(alloc, file, layout)
@@ -67,6 +72,7 @@ pub fn open_layout<B: Backing>(alloc: Global, file: &mut B) -> Result<Opened, La
 
 /// Reads each stored block of a file that was laid out once, and keeps its digest: what `open_layout` does behind `open_shape`. Who may refuse
 /// the file by its layout does so before.
+#[tactic(auto, using(crate::proofs::fixed_part::OwnFaults::own_outside))]
 pub fn open_digests<B: Backing>(
     alloc: Global,
     file: &mut B,
@@ -79,6 +85,7 @@ pub fn open_digests<B: Backing>(
     ensures same { IfOk result (λ opened. layout_in opened ≡ layout) }
     ensures areas { IfOk result (λ opened. IsSoundOpened opened) }
     ensures failed { IfErr result (λ fault. (fault ≡ read_fault) ⊎ (fault ≡ out_of_memory)) }
+    ensures own { IfErr result (λ fault. IsOwnFault fault) }
     ensures kept { B.kept file.new ≡ B.kept file.old }
     ensures cause { HasCauseAt read_fault (B.faults file.old) (B.faults file.new) result }
 {

@@ -3,10 +3,10 @@ use Rattle.std.proofs.Common.{◌≡◌, ◌≢◌, ℕ, suc, ◌-◌, ◌<◌, 
 use Rattle.std.proofs.lemmas.List.{get_or_read}
 use Rattle.std.proofs.lemmas.List.FromFn.{get_or-map-range_with_len}
 use Rattle.sha2.specs.Sha256.{sha256}
-use Rattle.inc_tree.specs.Collision.{IsCollision}
-use Rattle.inc_tree.specs.Geometry.{Shape, depth, path_block, path_slot}
-use Rattle.inc_tree.specs.Path.{block_at, slot_of, digest_below, IsProof}
-use Rattle.inc_tree.specs.Root.{path_through}
+use Rattle.inc_tree.specs.content_tree.Collision.{IsCollision}
+use Rattle.inc_tree.specs.shape.Geometry.{Shape, depth, path_block, path_slot}
+use Rattle.inc_tree.specs.read_block.Path.{block_at, slot_of, digest_below, IsProof}
+use Rattle.inc_tree.specs.content_tree.Root.{path_through}
 use Rattle.inc_tree.proofs.GrowthLemmas.{wanted_here}
 
 pub read_at : (path : List (List ℕ)) (level : ℕ) (block : List ℕ) → level < length path → block ≡ get_or path level block → block ≡ block_at path level

@@ -8,10 +8,10 @@ use Rattle.std.proofs.lemmas.List.{get_or-map, get_or_default, length-map, get_o
 use Rattle.std.proofs.lemmas.List.FromFn.{length-map-range_with_len, get_or-map-range_with_len}
 use Rattle.sha2.specs.Sha256.{sha256}
 use Rattle.sha2.proofs.Facts256.{length-sha256}
-use Rattle.inc_tree.specs.Geometry.{Shape, tree_of, blocks_of, data_blocks, blocks_above, levels, level_counts, depth, total, hash_blocks, path_block, path_slot}
-use Rattle.inc_tree.specs.Path.{block_at, block_digest, padded, slot_of, digest_below, digest_wanted, IsProof}
-use Rattle.inc_tree.specs.Limits.{most_size}
-use Rattle.inc_tree.specs.Root.{AreDigests, joined_block, level_over, root_over, area_over, root_of, area_of, leaf_digests, content_block, path_through}
+use Rattle.inc_tree.specs.shape.Geometry.{Shape, tree_of, blocks_of, data_blocks, blocks_above, levels, level_counts, depth, total, hash_blocks, path_block, path_slot}
+use Rattle.inc_tree.specs.read_block.Path.{block_at, block_digest, padded, slot_of, digest_below, digest_wanted, IsProof}
+use Rattle.inc_tree.specs.shape.Limits.{most_size}
+use Rattle.inc_tree.specs.content_tree.Root.{AreDigests, joined_block, level_over, root_over, area_over, root_of, area_of, leaf_digests, content_block, path_through}
 use Rattle.inc_tree.proofs.LevelLemmas.{levels_zero, levels_done, levels_more, above_bound, above_within, total_from, total_rest_le}
 use Rattle.inc_tree.proofs.PathLemmas.{wanted_root}
 use Rattle.inc_tree.proofs.RootLemmas.{length-level_over, slot-joined_block}

@@ -4,9 +4,9 @@ use Rattle.std.proofs.Math.Nat.{pow-suc, pow-succ', one-le-pow, pow-le-pow_right
 use Rattle.std.proofs.lemmas.Bool.{le-leb, lt-leb, cases_lt}
 use Rattle.std.proofs.lemmas.List.{append-nil, append_assoc, take_more_set, take-append-drop, drop-set-lt, drop-drop, drop_more, length-take-le, get_or_append_left}
 use Rattle.std.proofs.Math.ListN.{length-set}
-use Rattle.inc_tree.specs.Geometry.{Shape, tree_of, flat_of, blocks_of, data_blocks, blocks_above, IsLevels, levels, level_counts, depth, total, hash_blocks, level_count, level_start}
-use Rattle.inc_tree.specs.Limits.{most_size, most_levels}
-use Rattle.inc_tree.specs.Cached.{Holds, padded_counts, shape_with}
+use Rattle.inc_tree.specs.shape.Geometry.{Shape, tree_of, flat_of, blocks_of, data_blocks, blocks_above, IsLevels, levels, level_counts, depth, total, hash_blocks, level_count, level_start}
+use Rattle.inc_tree.specs.shape.Limits.{most_size, most_levels}
+use Rattle.inc_tree.specs.shape.Cached.{Holds, padded_counts, shape_with}
 
 pub levels_done : (most below : ℕ) → below ≤ 1 → levels most below ≡ []
 unfolding levels

@@ -5,8 +5,8 @@ use Rattle.std.proofs.lemmas.Slice.Eq.{bytes_eq-Decides}
 use Rattle.std.proofs.lemmas.Bool.{false_from_ne_true, cases_lt, cond-true, cond-false, lt-ltb, le-ltb, both_ways, not-true, not-false}
 use Rattle.std.proofs.lemmas.List.{append-nil, get_or_default, get_or_read}
 use Rattle.sha2.specs.Sha256.{sha256}
-use Rattle.inc_tree.specs.Geometry.{Shape, depth, path_slot}
-use Rattle.inc_tree.specs.Path.{block_at, block_digest, padded, slot_of, digest_below, digest_wanted, IsProof, BreaksFirst, break_from, first_break}
+use Rattle.inc_tree.specs.shape.Geometry.{Shape, depth, path_slot}
+use Rattle.inc_tree.specs.read_block.Path.{block_at, block_digest, padded, slot_of, digest_below, digest_wanted, IsProof, BreaksFirst, break_from, first_break}
 
 same_bytes : (xs ys : List ℕ) → xs ≡ ys → bytes_eq xs ys ≡ true
 same_bytes xs ys e = (bytes_eq-Decides xs ys).1 e

@@ -7,9 +7,9 @@ use Rattle.std.proofs.lemmas.List.{append_assoc, append-nil, drop_all, take-appe
 use Rattle.std.proofs.lemmas.List.Elements.{All-append, All-take, All-drop}
 use Rattle.std.proofs.lemmas.List.Folds.{concat-append}
 use Rattle.std.proofs.lemmas.List.FromFn.{length-map-range_with_len, get_or-map-range_with_len, map-range_with_len_more}
-use Rattle.inc_tree.specs.Geometry.{blocks_above}
-use Rattle.inc_tree.specs.Path.{padded, slot_of}
-use Rattle.inc_tree.specs.Root.{AreDigests, joined_block, level_over}
+use Rattle.inc_tree.specs.shape.Geometry.{blocks_above}
+use Rattle.inc_tree.specs.read_block.Path.{padded, slot_of}
+use Rattle.inc_tree.specs.content_tree.Root.{AreDigests, joined_block, level_over}
 
 pub length-concat : (ds : List (List ℕ)) → AreDigests ds → length (concat ds) ≡ 32 * length ds
 length-concat [] all = refl

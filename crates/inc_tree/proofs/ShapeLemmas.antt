@@ -2,7 +2,7 @@
 use Rattle.std.proofs.Common.{◌≡◌, ℕ, ◌*◌, ◌<◌, ◌≤◌, Bool, true, false, if◌then◌else◌, [], length, refl, ap, ⊎_elim, arith}
 use Rattle.std.specs.Prelude.{nat_eq}
 use Rattle.std.proofs.lemmas.Bool.{cases_lt, false_from_ne_true}
-use Rattle.inc_tree.specs.Geometry.{Shape, shape_of, blocks_of, data_blocks, levels, level_counts, depth, total, hash_blocks, path_block}
+use Rattle.inc_tree.specs.shape.Geometry.{Shape, shape_of, blocks_of, data_blocks, levels, level_counts, depth, total, hash_blocks, path_block}
 use Rattle.inc_tree.proofs.LevelLemmas.{levels_done, levels_more}
 
 some_above : (below : ℕ) → 1 < below → 0 < total (levels 9 below)

@@ -1,7 +1,7 @@
 -- A block is hashed as filled up with zeros, so a path proves its content where it proves the cleared block.
 use Rattle.std.proofs.Common.{◌≡◌, ℕ, zero, suc, ◌-◌, ◌≤◌, List, ◌++◌, length, take, replicate, refl, sym, ap, ◌∙◌, arith, length-append}
 use Rattle.std.proofs.lemmas.List.{length-replicate, append-nil}
-use Rattle.inc_tree.specs.Path.{padded, digest_below, NamesBreak}
+use Rattle.inc_tree.specs.read_block.Path.{padded, digest_below, NamesBreak}
 use Rattle.sha2.specs.Sha256.{sha256}
 
 -- a block that was cleared from its length on is its content filled up with zeros

@@ -1,13 +1,4 @@
-pub mod Cached
-pub mod Collision
-pub mod Geometry
-pub mod Grown
-pub mod HashLevel
-pub mod Inverse
+pub mod content_tree
 pub mod Lanes
-pub mod Limits
-pub mod Path
-pub mod Root
-pub mod Shown
-pub mod Unproved
-pub mod Verified
+pub mod read_block
+pub mod shape

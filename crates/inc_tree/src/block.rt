@@ -1,6 +1,6 @@
 // Blocks, and lists of them. Neither type says how its memory is kept: contracts see the bytes alone.
 ghost use Rattle.std.specs.Prelude.{◌≡◌, ◌≢◌, ◌+◌, ◌-◌, ◌*◌, ◌<◌, ◌≤◌, ◌++◌, ℕ, List, length, take, drop, replicate, vec_len, All, IfOk, IfSome, IfNone, OnSome};
-ghost use Rattle.inc_tree.specs.Path.{padded};
+ghost use Rattle.inc_tree.specs.read_block.Path.{padded};
 
 use crate::{BLOCK_SIZE, DIGEST_SIZE, Digest32, OutOfMemory};
 use std::alloc::Global;

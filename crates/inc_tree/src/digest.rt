@@ -1,6 +1,6 @@
 // SHA-256 (FIPS 180-4) of blocks.
 ghost use Rattle.std.specs.Prelude.{◌≡◌, ◌≤◌, ◌++◌, [], ◌∷◌, length, map};
-ghost use Rattle.inc_tree.specs.Path.{block_digest};
+ghost use Rattle.inc_tree.specs.read_block.Path.{block_digest};
 ghost use Rattle.sha2.specs.Sha256.{sha256};
 
 mod constants;

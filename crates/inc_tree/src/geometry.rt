@@ -1,7 +1,7 @@
 // The shape of a file's tree. All of it follows from the file's size and from whether it has a tree at all, and contracts see these two alone.
 ghost use Rattle.std.specs.Prelude.{◌≡◌, ◌+◌, ◌<◌, ◌≤◌, ◌^◌, [], IfOk, OnOk, OnErr};
-ghost use Rattle.inc_tree.specs.Geometry.{tree_of, flat_of, blocks_of, data_blocks, hash_blocks, depth, level_counts, level_count, level_start, path_block, path_slot, block_len, IsLevels, total};
-ghost use Rattle.inc_tree.specs.Limits.{most_size};
+ghost use Rattle.inc_tree.specs.shape.Geometry.{tree_of, flat_of, blocks_of, data_blocks, hash_blocks, depth, level_counts, level_count, level_start, path_block, path_slot, block_len, IsLevels, total};
+ghost use Rattle.inc_tree.specs.shape.Limits.{most_size};
 ghost use Rattle.std.specs.Prelude.{drop};
 
 use crate::{BLOCK_SIZE, DIGESTS_PER_BLOCK, MOST_SIZE};
@@ -25,17 +25,17 @@ pub struct Geometry {
 }
 
 impl Model for Geometry {
-    ghost use Rattle.inc_tree.specs.Geometry.{Shape};
+    ghost use Rattle.inc_tree.specs.shape.Geometry.{Shape};
 
     ghost Value = { Shape };
 
-    ghost use Rattle.inc_tree.specs.Cached.{Holds, shape_with};
+    ghost use Rattle.inc_tree.specs.shape.Cached.{Holds, shape_with};
 
     ghost view = { λ tree. shape_with tree.size tree.flat };
 
     ghost invariant = { λ tree. Holds tree.size tree.flat tree.blocks tree.height tree.counts };
 
-    ghost use Rattle.inc_tree.specs.Inverse.{inside_of, inside_of-shape};
+    ghost use Rattle.inc_tree.specs.shape.Inverse.{inside_of, inside_of-shape};
 
     ghost inverse = { inside_of };
 

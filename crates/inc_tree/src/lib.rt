@@ -10,37 +10,26 @@
 //! to pass as the content's: two blocks of one digest.
 #![tactic(auto)]
 
+// Shapes, blocks and their digests.
 mod block;
-mod building;
-mod colliding;
 mod digest;
 mod geometry;
-mod growing;
-mod hash_level;
-mod path;
-mod shown;
-#[cfg(test)]
-mod tests;
-mod unproved;
-mod verified;
+
+// A block that is read, and the tree of a content that is there whole.
+mod content_tree;
+mod read_block;
 
 pub use block::{Block, Path};
-pub use building::{Tree, TreeFault, build, tree_over};
-pub use colliding::collision;
+pub use content_tree::{HashLevel, Tree, TreeFault, build, collision, tree_over};
 pub use digest::{digest_block, digest_blocks, digest_four};
 pub use geometry::{Geometry, TooLarge};
-pub use hash_level::HashLevel;
-pub use path::{Broken, check_path, slot_digest};
-pub use shown::Shown;
-use std::alloc::AllocError;
-pub use unproved::Unproved;
-pub use verified::{Verified, verify};
+pub use read_block::{Broken, Shown, Unproved, Verified, check_path, slot_digest, verify};
 
 /// A SHA-256 digest (FIPS 180-4): 32 bytes.
 pub type Digest32 = [u8; DIGEST_SIZE];
 
 /// Want of memory, the one answer of this crate that may come at any time.
-pub type OutOfMemory = AllocError;
+pub type OutOfMemory = std::alloc::AllocError;
 
 /// The bytes of a block, of data and of the hash area alike.
 pub const BLOCK_SIZE: usize = 4096;
@@ -53,3 +42,6 @@ pub const DIGESTS_PER_BLOCK: u32 = 128;
 
 /// The most bytes that a file may have.
 pub const MOST_SIZE: u64 = 1 << 34;
+
+#[cfg(test)]
+mod tests;

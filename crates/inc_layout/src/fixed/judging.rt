@@ -2,7 +2,8 @@ ghost use Rattle.std.specs.Prelude.{◌≡◌, ◌≢◌, Ok, Err, IfOk, IfErr};
 ghost use Rattle.inc_bytes.specs.Tests.{first_failing, judge};
 ghost use Rattle.inc_entry.specs.Entry.{area_places, areas_of};
 ghost use Rattle.inc_entry.specs.Spans.{are_apart, is_inside};
-ghost use Rattle.inc_layout.specs.Fixed.{area_tests, blob_span, blob_span_tests, plain_of};
+ghost use Rattle.inc_layout.specs.opening.Faults.{IsOwnFault};
+ghost use Rattle.inc_layout.specs.fixed.Fixed.{area_tests, blob_span, blob_span_tests, plain_of};
 ghost use Rattle.inc_layout.specs.declared.fault.LayoutFault.TheVariants.{ReadFault as read_fault};
 
 use super::{Front, PlainFront};
@@ -15,12 +16,13 @@ use inc_signature::{MOST_BLOB, SigFault};
 use inc_tree::{BLOCK_SIZE, Geometry};
 
 /// Takes the front of a plain file that isn't too large.
-#[tactic(auto, unfolding(crate::specs::Fixed::plain_of))]
+#[tactic(auto, unfolding(crate::specs::fixed::Fixed::plain_of))]
 pub fn plain_front(front: Front) -> Result<PlainFront, LayoutFault>
     ensures answer { IfOk result (λ plain. plain_of front.header ≡ Ok plain.header) }
     ensures refused { IfErr result (λ fault. plain_of front.header ≡ Err fault) }
     ensures len { IfOk result (λ plain. plain.len ≡ front.len) }
     ensures judged { result ≢ Err read_fault }
+    ensures own { IfErr result (λ fault. IsOwnFault fault) }
 {
     let Front { header, len } = front;
     let HeaderKind::Plain { first } = header.kind else {
@@ -59,10 +61,11 @@ pub fn blob_span(signature: &SigRecord) -> Span
 }
 
 /// Whether the signature blob is short enough to be read.
-#[tactic(auto, unfolding(crate::specs::Fixed::blob_span_tests))]
+#[tactic(auto, unfolding(crate::specs::fixed::Fixed::blob_span_tests))]
 pub fn check_blob(signature: &SigRecord, len: u64) -> Result<(), LayoutFault>
     ensures value { result ≡ judge (first_failing (blob_span_tests len signature.now)) tt }
     ensures judged { result ≢ Err read_fault }
+    ensures own { IfErr result (λ fault. IsOwnFault fault) }
 {
     if signature.sig_size as usize > MOST_BLOB {
         return Err(LayoutFault::Signature(SigFault::TooLong));
@@ -88,7 +91,7 @@ pub fn are_apart(spans: &[Span]) -> bool
 }
 
 /// Whether map and tree have their sizes, and everything its own place. `spans` are those of all areas.
-#[tactic(auto, unfolding(crate::specs::Fixed::area_tests))]
+#[tactic(auto, unfolding(crate::specs::fixed::Fixed::area_tests))]
 pub fn check_areas(
     areas: &Areas,
     spans: &[Span],
@@ -98,6 +101,7 @@ pub fn check_areas(
     requires { spans.now ≡ areas_of (area_places areas.now) }
     ensures value { result ≡ judge (first_failing (area_tests areas.now.len (area_places areas.now) count tree_size)) tt }
     ensures judged { result ≢ Err read_fault }
+    ensures own { IfErr result (λ fault. IsOwnFault fault) }
 {
     let blocks = areas.geometry.hash_blocks() as u64;
     let entries = areas.geometry.data_blocks() as u64 + blocks;

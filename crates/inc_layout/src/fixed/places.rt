@@ -1,8 +1,9 @@
-ghost use Rattle.std.specs.Prelude.{◌≡◌, ◌≢◌, ◌++◌, ◌∷◌, [], is_some, if◌then◌else◌, IfOk, Ok, Err};
+ghost use Rattle.std.specs.Prelude.{◌≡◌, ◌≢◌, ◌++◌, ◌∷◌, [], is_some, if◌then◌else◌, IfErr, IfOk, Ok, Err};
 ghost use Rattle.inc_entry.specs.Entry.{areas_of, area_places};
 ghost use Rattle.inc_md.specs.Inside.{AreRecordsInside};
-ghost use Rattle.inc_layout.specs.Fixed.{blob_span, blob_spans, hash_base, hash_size, header_span, map_base, map_count, places_in, shape_for, with_sig};
-ghost use Rattle.inc_layout.specs.Told.{GivesFixed, IsPlaced};
+ghost use Rattle.inc_layout.specs.opening.Faults.{IsOwnFault};
+ghost use Rattle.inc_layout.specs.fixed.Fixed.{blob_span, blob_spans, hash_base, hash_size, header_span, map_base, map_count, places_in, shape_for, with_sig};
+ghost use Rattle.inc_layout.specs.fixed.Told.{GivesFixed, IsPlaced};
 ghost use Rattle.inc_layout.specs.declared.fault.LayoutFault.TheVariants.{ReadFault as read_fault};
 
 use super::judging::{blob_span, check_areas};
@@ -29,6 +30,7 @@ pub fn with_areas(
     ensures placed { IfOk result (λ part. IsPlaced part) }
     ensures len { IfOk result (λ part. part.areas.len ≡ plain.len) }
     ensures judged { result ≢ Err read_fault }
+    ensures own { IfErr result (λ fault. IsOwnFault fault) }
 {
     let signature = records.signature;
     let PlainFront {

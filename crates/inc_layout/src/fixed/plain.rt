@@ -1,6 +1,6 @@
 ghost use Rattle.std.specs.Prelude.{◌≡◌};
 ghost use Rattle.inc_header.specs.declared.header.HeaderKind.TheVariants.{Plain};
-ghost use Rattle.inc_tree.specs.Geometry.{flat_of, tree_of};
+ghost use Rattle.inc_tree.specs.shape.Geometry.{flat_of, tree_of};
 
 use inc_header::Header;
 use inc_tree::Geometry;

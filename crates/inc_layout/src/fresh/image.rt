@@ -1,7 +1,7 @@
 ghost use Rattle.std.specs.Prelude.{◌≡◌, ◌^◌, ◌≤◌, ◌+◌, ◌*◌, ◌++◌, length, IfOk, OnOk};
 ghost use Rattle.inc_header.specs.Header.{IsHeader, header_bytes};
-ghost use Rattle.inc_tree.specs.Limits.{most_size};
-ghost use Rattle.inc_tree.specs.Geometry.{data_blocks, blocks_of};
+ghost use Rattle.inc_tree.specs.shape.Limits.{most_size};
+ghost use Rattle.inc_tree.specs.shape.Geometry.{data_blocks, blocks_of};
 ghost use Rattle.inc_layout.specs.Fresh.{block_start, entry_count, fresh_header, fresh_length, fresh_of, image_of, map_place, map_record, signature_record, status_record, tree_bytes, tree_place, unsigned_length, unsigned_map_place, unsigned_of};
 
 use super::FreshImage;

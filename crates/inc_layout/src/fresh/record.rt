@@ -3,22 +3,23 @@ ghost use Rattle.inc_bytes.specs.Fields.{le_bytes};
 ghost use Rattle.inc_layout.specs.Fresh.{map_record, record_head, signature_record, status_record};
 
 use crate::OutOfMemory;
+use inc_header::HEADER_LEN;
 use inc_md::{
     MAP_KIND, MAP_RECORD_SIZE, SIGNATURE_KIND, SIGNATURE_RECORD_SIZE, STATUS_KIND,
     STATUS_RECORD_SIZE,
 };
 
-/// The places of a fresh file's records, and of what comes behind them.
-pub const FIRST_RECORD: u64 = 56;
+/// The places of a fresh file's records, each behind the one before it, and of what comes behind them.
+pub const FIRST_RECORD: u64 = HEADER_LEN as u64;
 
-const SECOND_RECORD: u64 = 91;
+const SECOND_RECORD: u64 = FIRST_RECORD + MAP_RECORD_SIZE as u64;
 
-const THIRD_RECORD: u64 = 138;
+const THIRD_RECORD: u64 = SECOND_RECORD + SIGNATURE_RECORD_SIZE as u64;
 
-pub const BLOB: u64 = 193;
+pub const BLOB: u64 = THIRD_RECORD + STATUS_RECORD_SIZE as u64;
 
 /// The place of an unsigned file's map, behind its two records.
-pub const UNSIGNED_MAP: u64 = 146;
+pub const UNSIGNED_MAP: u64 = SECOND_RECORD + STATUS_RECORD_SIZE as u64;
 
 /// Appends a number of two bytes.
 #[tactic(auto, using(inc_bytes::proofs::Numbers::le_bytes_2))]

@@ -1,5 +1,5 @@
 use Rattle.std.proofs.lemmas.Result.{err_from_is_err_and}
-use Rattle.inc_layout.proofs.FixedSteps.{no_front, not_plain, plain_part}
+use Rattle.inc_layout.proofs.fixed_part.FixedSteps.{no_front, not_plain, plain_part}
 use Rattle.inc_layout.proofs.fixed.open_fixed.Goals as goal
 
 pub returns-in_err-front-clause-answer : goal.returns-in_err-front-clause-answer

@@ -1,6 +1,6 @@
 use Rattle.std.proofs.Common.{arith, refl}
 use Rattle.std.proofs.lemmas.Result.{err_from_is_err_and}
-use Rattle.inc_layout.proofs.FixedSteps.{front_given, front_room, front_told, no_header, too_long}
+use Rattle.inc_layout.proofs.fixed_part.FixedSteps.{front_given, front_room, front_told, no_header, too_long}
 use Rattle.inc_layout.proofs.fixed.read_front.Goals as goal
 
 pub returns-then-len-gt-MOST_LENGTH-clause-answer : goal.returns-then-len-gt-MOST_LENGTH-clause-answer

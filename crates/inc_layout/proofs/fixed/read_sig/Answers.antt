@@ -1,5 +1,5 @@
 use Rattle.std.proofs.lemmas.Result.{err_from_is_err_and}
-use Rattle.inc_layout.proofs.FixedSteps.{has_blob, no_blob, no_blob_place}
+use Rattle.inc_layout.proofs.fixed_part.FixedSteps.{has_blob, no_blob, no_blob_place}
 use Rattle.inc_layout.proofs.fixed.read_sig.Goals as goal
 
 pub returns-in_err-check_blob-clause-answer : goal.returns-in_err-check_blob-clause-answer

@@ -1,9 +1,9 @@
 use Rattle.std.proofs.Common.{ap, subst, ◌∙◌}
 use Rattle.std.specs.Prelude.{Some}
 use Rattle.inc_header.specs.Header.{IsHeader}
-use Rattle.inc_tree.specs.Geometry.{Shape}
+use Rattle.inc_tree.specs.shape.Geometry.{Shape}
 use Rattle.inc_layout.specs.Fresh.{fresh_header, fresh_of}
-use Rattle.inc_layout.proofs.FreshMeaning.{fresh_stands}
+use Rattle.inc_layout.proofs.fresh_file.FreshMeaning.{fresh_stands}
 use Rattle.inc_layout.proofs.fresh.fresh_image.Goals as goal
 
 pub returns-clause-value : goal.returns-clause-value

@@ -1,8 +1,8 @@
 use Rattle.std.proofs.Common.{ap, subst, ◌∙◌, ℕ, None}
 use Rattle.inc_header.specs.Header.{IsHeader}
-use Rattle.inc_tree.specs.Geometry.{Shape}
+use Rattle.inc_tree.specs.shape.Geometry.{Shape}
 use Rattle.inc_layout.specs.Fresh.{fresh_header, unsigned_of}
-use Rattle.inc_layout.proofs.FreshUnsigned.{unsigned_stands}
+use Rattle.inc_layout.proofs.fresh_file.FreshUnsigned.{unsigned_stands}
 use Rattle.inc_layout.proofs.fresh.fresh_unsigned.Goals as goal
 
 pub returns-clause-stands : goal.returns-clause-stands

@@ -1,4 +1,4 @@
-use Rattle.inc_layout.proofs.SameFixedLemmas.{fixed_stays}
+use Rattle.inc_layout.proofs.fixed_part.SameFixedLemmas.{fixed_stays}
 use Rattle.inc_layout.proofs.laws.fixed_part_stays.Goals as goal
 
 pub returns : goal.returns

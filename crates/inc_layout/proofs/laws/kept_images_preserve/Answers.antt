@@ -1,4 +1,4 @@
-use Rattle.inc_layout.proofs.Preserving.{kept_preserves}
+use Rattle.inc_layout.proofs.opened_file.Preserving.{kept_preserves}
 use Rattle.inc_layout.proofs.laws.kept_images_preserve.Goals as goal
 
 pub returns : goal.returns

@@ -1,4 +1,4 @@
-use Rattle.inc_layout.proofs.OpeningSteps.{laid_told, opened_given, told_stands}
+use Rattle.inc_layout.proofs.opened_file.OpeningSteps.{laid_told, opened_given, told_stands}
 use Rattle.inc_layout.proofs.opening.open_digests.Goals as goal
 
 pub returns-clause-answer : goal.returns-clause-answer

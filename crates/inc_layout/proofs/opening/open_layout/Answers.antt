@@ -1,6 +1,6 @@
 use Rattle.std.proofs.lemmas.Result.{err_from_is_err_and}
-use Rattle.inc_layout.proofs.AcceptedLemmas.{told_accepted, told_least}
-use Rattle.inc_layout.proofs.OpeningSteps.{no_layout, none_past_given}
+use Rattle.inc_layout.proofs.opened_file.AcceptedLemmas.{told_accepted, told_least}
+use Rattle.inc_layout.proofs.opened_file.OpeningSteps.{no_layout, none_past_given}
 use Rattle.inc_layout.proofs.opening.open_layout.Goals as goal
 
 pub returns-in_err-layout-clause-answer : goal.returns-in_err-layout-clause-answer

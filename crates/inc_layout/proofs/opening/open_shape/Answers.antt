@@ -1,10 +1,10 @@
 use Rattle.std.specs.Prelude.{Ok}
 use Rattle.std.proofs.Common.{subst, sym}
 use Rattle.std.proofs.lemmas.Result.{err_from_is_err_and}
-use Rattle.inc_layout.specs.Opening.{IsSoundLayout}
+use Rattle.inc_layout.specs.opening.Opening.{IsSoundLayout}
 use Rattle.inc_layout.specs.declared.opened.Layout.{Layout}
-use Rattle.inc_layout.proofs.AcceptedLemmas.{layout_accepted, layout_least}
-use Rattle.inc_layout.proofs.OpeningSteps.{layout_given, layout_sound, layout_told, no_classes_given, no_part}
+use Rattle.inc_layout.proofs.opened_file.AcceptedLemmas.{layout_accepted, layout_least}
+use Rattle.inc_layout.proofs.opened_file.OpeningSteps.{layout_given, layout_sound, layout_told, no_classes_given, no_part}
 use Rattle.inc_layout.proofs.opening.open_shape.Goals as goal
 
 pub returns-in_err-part-clause-answer : goal.returns-in_err-part-clause-answer

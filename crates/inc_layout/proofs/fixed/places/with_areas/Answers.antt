@@ -1,5 +1,5 @@
 use Rattle.std.proofs.Common.{◌∙◌, rules}
-use Rattle.inc_layout.proofs.Placed.{placed_from, record_shape}
+use Rattle.inc_layout.proofs.fixed_part.Placed.{placed_from, record_shape}
 use Rattle.inc_layout.proofs.fixed.places.with_areas.Goals as goal
 
 pub returns-clause-placed : goal.returns-clause-placed

@@ -1,5 +1,5 @@
 use Rattle.std.proofs.Common.{◌∙◌}
-use Rattle.inc_layout.proofs.FreshPieces.{front_built, image_whole}
+use Rattle.inc_layout.proofs.fresh_file.FreshPieces.{front_built, image_whole}
 use Rattle.inc_layout.proofs.fresh.image.signed_image.Goals as goal
 
 pub returns-clause-value : goal.returns-clause-value

@@ -1,5 +1,5 @@
 use Rattle.std.proofs.Common.{◌∙◌, arith}
-use Rattle.inc_layout.proofs.FreshPieces.{unsigned_whole}
+use Rattle.inc_layout.proofs.fresh_file.FreshPieces.{unsigned_whole}
 use Rattle.inc_layout.proofs.fresh.image.unsigned_image.Goals as goal
 
 pub returns-clause-value : goal.returns-clause-value

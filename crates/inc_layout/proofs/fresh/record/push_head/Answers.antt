@@ -1,4 +1,4 @@
-use Rattle.inc_layout.proofs.FreshPieces.{head_appended}
+use Rattle.inc_layout.proofs.fresh_file.FreshPieces.{head_appended}
 use Rattle.inc_layout.proofs.fresh.record.push_head.Goals as goal
 
 pub returns : goal.returns

@@ -1,4 +1,4 @@
-use Rattle.inc_layout.proofs.FreshPieces.{map_appended}
+use Rattle.inc_layout.proofs.fresh_file.FreshPieces.{map_appended}
 use Rattle.inc_layout.proofs.fresh.record.push_map.Goals as goal
 
 pub returns : goal.returns

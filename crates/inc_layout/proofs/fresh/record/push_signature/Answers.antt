@@ -1,4 +1,4 @@
-use Rattle.inc_layout.proofs.FreshPieces.{signature_appended}
+use Rattle.inc_layout.proofs.fresh_file.FreshPieces.{signature_appended}
 use Rattle.inc_layout.proofs.fresh.record.push_signature.Goals as goal
 
 pub returns : goal.returns

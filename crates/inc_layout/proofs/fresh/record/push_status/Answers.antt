@@ -1,4 +1,4 @@
-use Rattle.inc_layout.proofs.FreshPieces.{status_appended}
+use Rattle.inc_layout.proofs.fresh_file.FreshPieces.{status_appended}
 use Rattle.inc_layout.proofs.fresh.record.push_status.Goals as goal
 
 pub returns : goal.returns

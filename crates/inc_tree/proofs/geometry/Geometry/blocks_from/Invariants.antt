@@ -1,6 +1,6 @@
 use Rattle.std.proofs.Common.{◌≡◌, ◌+◌, drop}
-use Rattle.inc_tree.specs.Cached.{shape_with}
-use Rattle.inc_tree.specs.Geometry.{level_counts, total}
+use Rattle.inc_tree.specs.shape.Cached.{shape_with}
+use Rattle.inc_tree.specs.shape.Geometry.{level_counts, total}
 use Rattle.inc_tree.proofs.geometry.Geometry.blocks_from.Given as goal
 
 abbrev pub invariant-loop-above : goal.invariant-loop-above

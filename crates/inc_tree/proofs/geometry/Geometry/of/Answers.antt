@@ -1,5 +1,5 @@
 use Rattle.std.proofs.Common.{◌≡◌, arith}
-use Rattle.inc_tree.specs.Geometry.{blocks_above}
+use Rattle.inc_tree.specs.shape.Geometry.{blocks_above}
 use Rattle.inc_tree.proofs.LevelLemmas.{levels_step, levels_found}
 use Rattle.inc_tree.proofs.geometry.Geometry.of.Goals as goal
 

@@ -1,0 +1,4 @@
+pub mod BreakLemmas
+pub mod CheckingSteps
+pub mod ReadMeaning
+pub mod StaticSteps

@@ -1,5 +1,0 @@
-use Rattle.inc_layout.proofs.ReadMeaning.{told_means}
-use Rattle.inc_layout.proofs.static_read.read_laid.Goals as goal
-
-pub returns-clause-meaning : goal.returns-clause-meaning
-returns-clause-meaning g c = told_means _ c.args.layout.now c.args.index c.requires.stands

@@ -1,0 +1,3 @@
+pub mod Preserves
+pub mod Reopening
+pub mod State

@@ -1,0 +1,4 @@
+pub mod Collision
+pub mod Grown
+pub mod HashLevel
+pub mod Root

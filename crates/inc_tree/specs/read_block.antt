@@ -1,0 +1,4 @@
+pub mod Path
+pub mod Shown
+pub mod Unproved
+pub mod Verified

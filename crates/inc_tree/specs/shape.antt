@@ -1,0 +1,4 @@
+pub mod Cached
+pub mod Geometry
+pub mod Inverse
+pub mod Limits
