@@ -13,7 +13,7 @@ use Rattle.inc_model.specs.declared.words.file_state.Stage.{Stage}
 use Rattle.inc_model.specs.declared.words.file_state.Stage.TheVariants.{Written as written_stage, Placed as placed_stage, Settled as settled_stage, Gated as gated_stage}
 use Rattle.inc_model.specs.declared.words.limits.TheConstants.{MOST_ENTRIES}
 use Rattle.inc_model.specs.declared.words.reply.Reply.TheVariants.{OutOfRange, Asked, Stranger, NoPath, Handed, TimedOut, NotYet, Fault, Claimed, Busy, Present, Put, Settled, Gated, Released, Taken, TimesFull, TimesSet, BadRange, Filled, Counted, Left}
-use Rattle.inc_tree.specs.Geometry.{levels, level_counts}
+use Rattle.inc_tree.specs.shape.Geometry.{levels, level_counts}
 use Rattle.inc_ranges.specs.Runs.{runs_from}
 use Rattle.inc_model.specs.relation.Polling.{absent_hash, absent_from}
 use Rattle.inc_model.specs.relation.Table.{reply_of, presence}

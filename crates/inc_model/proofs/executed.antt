@@ -1,4 +1,5 @@
 -- The executed core does what the relation says.
-pub mod Pure
+pub mod OwnReplies
 pub mod Replies
 pub mod Room
+pub mod Start

@@ -4,7 +4,5 @@ pub mod Histories
 pub mod Openings
 pub mod OtherRows
 pub mod Others
-pub mod Rounds
 pub mod Sources
-pub mod Start
 pub mod Worlds

@@ -21,8 +21,8 @@ use std::alloc::Global;
 use std::marker::Model;
 
 pub(crate) mod copies;
-pub(crate) mod legality;
 mod lookups;
+pub(crate) mod places;
 mod reply_table;
 mod state_changes;
 

@@ -14,12 +14,9 @@ mod file_core;
 mod indices;
 mod state_lists;
 
-// A file without a device, and runs.
-mod histories;
-
 pub use file_core::FileCore;
-pub use histories::pure_file::{PureFault, PureFile};
-pub use histories::world::{Round, World, WorldEnd, fresh_file};
+pub use file_core::copies::{copy_reply, copy_state};
+pub use file_core::places::window_of;
 pub use inc_bytes::{Id, Rows};
 pub use inc_pending::{ReadRow, RecordList, Times};
 pub use inc_ranges::RangeList;

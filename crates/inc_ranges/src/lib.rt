@@ -4,9 +4,11 @@
 //! runs there is room for; the answer has the first runs and says where the next one begins.
 #![tactic(auto)]
 
+mod presence;
 mod range_list;
 mod runs;
 
+pub use presence::Presence;
 pub use range_list::RangeList;
 pub use runs::{RangeFault, Ranges, filled};
 

@@ -1,13 +1,14 @@
 -- What the loops behind a reply find: the lowest absent hash block, and which indices are open.
-use Rattle.std.proofs.Common.{◌≡◌, ℕ, zero, suc, ◌+◌, ◌-◌, ◌<◌, ◌≤◌, ◌⊎◌, Bool, true, false, cond, List, [], ◌∷◌, ◌++◌, length, take, drop, Some, None, refl, ap, ◌∙◌, arith, inl, inr, ltb, leb}
+use Rattle.std.proofs.Common.{◌≡◌, ℕ, zero, suc, ◌+◌, ◌-◌, ◌<◌, ◌≤◌, ◌⊎◌, Bool, true, false, cond, List, [], ◌∷◌, ◌++◌, length, get_or, take, drop, Some, None, refl, sym, ap, ◌∙◌, arith, inl, inr, ltb, leb}
 use Rattle.std.specs.Prelude.{All}
 use Rattle.std.proofs.lemmas.List.Elements.{All-head, All-tail}
 use Rattle.inc_pending.specs.declared.reads.ReadRow.{ReadRow}
 use Rattle.inc_pending.specs.declared.reads.Decision.TheVariants.{Hand, TimedOut, NotYet as waits}
 use Rattle.inc_pending.specs.Polling.{is_asked, read_of, decision, decision_of}
 use Rattle.std.proofs.lemmas.Bool.{lt-ltb, le-ltb, cases_lt}
-use Rattle.std.proofs.lemmas.List.{length-append}
-use Rattle.inc_ranges.specs.Runs.{runs_of, start_or}
+use Rattle.std.proofs.lemmas.List.{length-append, get_or_append_left}
+use Rattle.std.proofs.Math.Seq.{get_or-append_seam}
+use Rattle.inc_ranges.specs.Runs.{is_filled, runs_of, start_or}
 use Rattle.inc_model.specs.declared.words.reply.Reply.TheVariants.{BadRange, Filled}
 use Rattle.inc_model.specs.relation.State.{Digests, is_in}
 use Rattle.inc_model.specs.relation.Polling.{levels_over, hash_on_path, is_hash_there, absent_from, absent_hash}
@@ -68,7 +69,7 @@ handed_within n who serial at block (row ∷ rows) h e = step (λ later. handed_
 
 -- ---- which indices are open
 
-pub presence_none : (digests : Digests) → presence digests 0 ≡ []
+presence_none : (digests : Digests) → presence digests 0 ≡ []
 unfolding presence
 presence_none digests = refl
 
@@ -76,12 +77,24 @@ presence_next : (digests : Digests) (count : ℕ) → presence digests (suc coun
 unfolding presence
 presence_next digests count = refl
 
-pub presence_more : (digests : Digests) (count : ℕ) → presence digests (count + 1) ≡ presence digests count ++ is_in count digests ∷ []
-presence_more digests count = let e : count + 1 ≡ suc count = omega arith in ap (λ c. presence digests c) e ∙ presence_next digests count
-
 length-presence : (digests : Digests) (count : ℕ) → length (presence digests count) ≡ count
 length-presence digests zero = ap length (presence_none digests)
 length-presence digests (suc count) = ap length (presence_next digests count) ∙ length-append (presence digests count) (is_in count digests ∷ []) ∙ (let e = length-presence digests count in omega arith)
+
+pub presence_count : (digests : Digests) (count size : ℕ) → size ≡ count → size ≡ length (presence digests count)
+presence_count digests count size e = e ∙ sym (length-presence digests count)
+
+filled_at : (digests : Digests) (count index : ℕ) → index < count → is_filled (presence digests count) index ≡ is_in index digests
+filled_at digests zero index lt = absurd (omega arith)
+filled_at digests (suc count) index lt = ap (λ l. is_filled l index) (presence_next digests count) ∙ elim (cases_lt index count) [
+  | inl below ↦ get_or_append_left (presence digests count) (is_in count digests ∷ []) false index (let e = length-presence digests count in omega arith) ∙ filled_at digests count index below
+  | inr last ↦
+      let same : index ≡ count = omega arith in
+      rw same (ap (λ n. get_or (presence digests count ++ is_in count digests ∷ []) n false) (sym (length-presence digests count)) ∙ get_or-append_seam (presence digests count) (is_in count digests) [] false)
+]
+
+pub presence_at : (digests : Digests) (count index : ℕ) → index < length (presence digests count) → is_in index digests ≡ is_filled (presence digests count) index
+presence_at digests count index lt = sym (filled_at digests count index (let e = length-presence digests count in omega arith))
 
 -- ---- ranges
 

@@ -1,5 +1,5 @@
 -- Each index in flight is one of the file's, and the sets that no event changes rise, after each entry.
-use Rattle.std.proofs.Common.{◌≡◌, ℕ, ◌+◌, ◌<◌, Bool, true, false, not, cond, leb, List, get_or, Option, Some, None, refl, arith}
+use Rattle.std.proofs.Common.{◌≡◌, ℕ, ◌+◌, ◌<◌, Bool, true, false, not, leb, List, get_or, Option, Some, None, refl, arith}
 use Rattle.std.specs.Prelude.{All, filter}
 use Rattle.std.proofs.lemmas.Bool.{leb-false}
 use Rattle.std.proofs.lemmas.List.Elements.{All-filter, All-map}
@@ -14,7 +14,7 @@ use Rattle.inc_model.specs.declared.words.reply.Reply.TheVariants.{Asked, NoPath
 use Rattle.inc_model.specs.relation.State.{Rise, is_same, is_in, has, flight_row, fly, land}
 use Rattle.inc_model.specs.relation.Stages.{is_gated, written, placed_row, placed, gated_row, gated, synced_row, synced_flight}
 use Rattle.inc_model.specs.relation.Table.{unless_failed, flight_reply, put_reply, reply_of}
-use Rattle.inc_model.specs.relation.Changes.{ask_change, poll_change, cancel_change, put_data_change, put_place_change, settle_change, gate_row_change, gate_change, times_change, leave_change, rest_change, change}
+use Rattle.inc_model.specs.relation.Changes.{ask_change, poll_change, cancel_change, put_data_change, put_place_change, settle_change, gate_row_change, gate_change, times_change, leave_change, rest_change}
 use Rattle.inc_model.specs.relation.Step.{Fits, IsPut}
 use Rattle.inc_model.proofs.lists.Flight.{fly_all, index-placed, index-gated}
 

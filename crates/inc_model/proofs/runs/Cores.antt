@@ -1,19 +1,18 @@
 -- The conditions of an executed core hold along every legal history.
-use Rattle.std.proofs.Common.{◌≡◌, ℕ, ◌+◌, ◌^◌, ◌<◌, ◌≤◌, Bool, true, false, List, [], ◌∷◌, length, Option, Some, None, refl, sym, ap, subst, ◌∙◌, arith}
-use Rattle.std.specs.Prelude.{AllPairs, All, count_by}
+use Rattle.std.proofs.Common.{◌≡◌, ℕ, ◌+◌, ◌<◌, ◌≤◌, Bool, true, false, List, [], ◌∷◌, length, Option, Some, None, refl, sym, ap, subst, ◌∙◌, arith}
+use Rattle.std.specs.Prelude.{All, count_by}
 use Rattle.std.proofs.lemmas.Bool.{false≢true, and_parts}
 use Rattle.std.proofs.lemmas.List.Elements.{All-nil}
 use Rattle.inc_pending.specs.Keyed.{lookup}
 use Rattle.inc_pending.specs.Polling.{AreRising, waits_on}
 use Rattle.inc_pending.specs.declared.reads.ReadRow.{ReadRow}
 use Rattle.inc_model.specs.declared.words.event.Event.{Event}
-use Rattle.inc_model.specs.declared.words.event.Event.TheVariants.{Ask, Poll, Cancel, Claim, PutData, PutPlace, Settle, Gate, Release, TakePending, SetTimes, Ranges, Count, Leave}
+use Rattle.inc_model.specs.declared.words.event.Event.TheVariants.{Gate}
 use Rattle.inc_model.specs.declared.words.event.Window.{Window}
 use Rattle.inc_model.specs.declared.words.file_state.FileState.{FileState}
 use Rattle.inc_model.specs.declared.words.file_state.FlightRow.{FlightRow}
 use Rattle.inc_model.specs.declared.words.file_state.Stage.{Stage}
 use Rattle.inc_model.specs.declared.words.file_state.Stage.TheVariants.{Written, Placed, Settled, Gated}
-use Rattle.inc_model.specs.declared.words.limits.TheConstants.{MOST_ENTRIES}
 use Rattle.inc_model.specs.declared.words.reply.Entry.{Entry}
 use Rattle.inc_model.specs.declared.words.reply.Reply.{Reply}
 use Rattle.inc_model.specs.declared.words.reply.Reply.TheVariants.{Fault}

@@ -4,7 +4,7 @@ use Rattle.std.proofs.lemmas.Bool.{cases_lt, leb-true}
 use Rattle.inc_pending.specs.Keyed.{lookup}
 use Rattle.inc_pending.specs.Polling.{read_of, decision_of}
 use Rattle.inc_pending.specs.declared.reads.ReadRow.{ReadRow}
-use Rattle.inc_tree.specs.Geometry.{level_counts}
+use Rattle.inc_tree.specs.shape.Geometry.{level_counts}
 use Rattle.inc_pending.specs.declared.reads.Decision.{Decision}
 use Rattle.inc_pending.specs.declared.reads.Decision.TheVariants.{Stranger as no_read, Hand, TimedOut as late_decision, NotYet as waiting_decision}
 use Rattle.inc_model.specs.declared.words.event.Event.TheVariants.{Poll}

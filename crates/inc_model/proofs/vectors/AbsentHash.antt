@@ -1,6 +1,6 @@
 -- A block whose hash block is absent, and the end of the clock. The replies and the end were given by a model of the events that was written apart from this repository.
 use Rattle.std.proofs.Common.{◌≡◌, ℕ, List, [], ◌∷◌, None, refl}
-use Rattle.inc_tree.specs.Geometry.{levels, level_counts}
+use Rattle.inc_tree.specs.shape.Geometry.{levels, level_counts}
 use Rattle.inc_ranges.specs.Runs.{runs_from}
 use Rattle.inc_model.specs.declared.words.event.Event.TheVariants.{Ask, Poll}
 use Rattle.inc_model.specs.declared.words.file_state.FileState.{FileState}

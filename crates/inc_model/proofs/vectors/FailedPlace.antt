@@ -1,6 +1,6 @@
 -- The third call to the device fails, as it writes a place. The replies and the end were given by a model of the events that was written apart from this repository.
-use Rattle.std.proofs.Common.{◌≡◌, ℕ, false, List, [], ◌∷◌, Some, None, refl}
-use Rattle.inc_tree.specs.Geometry.{levels, level_counts}
+use Rattle.std.proofs.Common.{◌≡◌, false, List, [], ◌∷◌, Some, None, refl}
+use Rattle.inc_tree.specs.shape.Geometry.{levels, level_counts}
 use Rattle.inc_ranges.specs.Runs.{runs_from}
 use Rattle.inc_model.specs.declared.words.event.Event.TheVariants.{Ask, Poll, Claim, PutData, PutPlace, Settle, Gate, Release}
 use Rattle.inc_model.specs.declared.words.file_state.FileState.{FileState}

@@ -2,7 +2,7 @@
 -- The replies and the end were given by a model of the events that was written apart from this repository.
 use Rattle.std.proofs.Common.{◌≡◌, ℕ, true, false, List, [], ◌∷◌, None, refl}
 use Rattle.inc_pending.specs.declared.pending_record.PendingRecord.{PendingRecord}
-use Rattle.inc_tree.specs.Geometry.{levels, level_counts}
+use Rattle.inc_tree.specs.shape.Geometry.{levels, level_counts}
 use Rattle.inc_ranges.specs.Runs.{runs_from}
 use Rattle.inc_model.specs.declared.words.event.Event.TheVariants.{Ask, Poll, Cancel, Claim, PutData, PutPlace, Settle, Gate, Release, TakePending, SetTimes, Ranges, Count, Leave}
 use Rattle.inc_model.specs.declared.words.file_state.FileState.{FileState}

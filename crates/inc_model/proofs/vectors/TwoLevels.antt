@@ -1,7 +1,7 @@
 -- Two levels: 300 data blocks and 4 hash blocks; blocks 299 and 128 are there, hash block 2 (index 302) is not.
 -- The replies and the end were given by a model of the events that was written apart from this repository.
 use Rattle.std.proofs.Common.{◌≡◌, ℕ, List, [], ◌∷◌, None, refl}
-use Rattle.inc_tree.specs.Geometry.{levels, level_counts}
+use Rattle.inc_tree.specs.shape.Geometry.{levels, level_counts}
 use Rattle.inc_ranges.specs.Runs.{runs_from}
 use Rattle.inc_model.specs.declared.words.event.Event.TheVariants.{Ask, Poll, Claim, PutData, PutPlace, Settle, Gate, Release}
 use Rattle.inc_model.specs.declared.words.file_state.FileState.{FileState}

@@ -1,5 +1,5 @@
 -- Slots by index, and the rising lists that they are: the slot at place i is that of index i.
-use Rattle.std.specs.Prelude.{◌≡◌, ℕ, ◌+◌, ◌^◌, ◌<◌, Bool, true, false, replicate, List, [], ◌∷◌, ◌++◌, map, length, count_by, Option, Some, None, if◌then◌else◌, nat_lt, nat_le}
+use Rattle.std.specs.Prelude.{◌≡◌, ℕ, ◌+◌, ◌^◌, ◌<◌, Bool, true, false, replicate, List, [], ◌∷◌, ◌++◌, length, count_by, Option, Some, None, if◌then◌else◌, nat_lt, nat_le}
 use Rattle.inc_model.specs.declared.indices.slots.Slot.{Slot}
 use Rattle.inc_model.specs.relation.State.{Digests, keys_of}
 use Rattle.inc_model.specs.executed.IndexLists.{IndexLists}

@@ -1,5 +1,5 @@
 -- What whoever keeps an executed core beside a history relies on: the core's conditions hold along every legal one.
-use Rattle.std.specs.Prelude.{◌≡◌, ℕ, ◌+◌, ◌^◌, ◌<◌, ◌≤◌, Bool, List, length}
+use Rattle.std.specs.Prelude.{ℕ, ◌+◌, ◌^◌, ◌<◌, ◌≤◌, Bool, List, length}
 use Rattle.inc_pending.specs.Keyed.{lookup}
 use Rattle.inc_model.specs.declared.words.event.Event.{Event}
 use Rattle.inc_model.specs.declared.words.file_state.FileState.{FileState}

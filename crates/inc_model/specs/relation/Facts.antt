@@ -1,6 +1,6 @@
 -- What holds in every state that a legal history reaches from an opening.
 use Rattle.std.specs.Prelude.{◌≡◌, ◌⊎◌, ℕ, ◌+◌, ◌<◌, ◌≤◌, true, false, List, Option, Some, None, is_some, All}
-use Rattle.inc_tree.specs.Geometry.{shape_of, hash_blocks}
+use Rattle.inc_tree.specs.shape.Geometry.{shape_of, hash_blocks}
 use Rattle.inc_pending.specs.Keyed.{lookup, KeysRise}
 use Rattle.inc_pending.specs.Polling.{AreRising}
 use Rattle.inc_pending.specs.Times.{HoldsTimes}

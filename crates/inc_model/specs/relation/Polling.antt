@@ -1,7 +1,7 @@
 -- What a poll answers. The read is looked at as `inc_pending` does it; where its block is handed out, all hash blocks of its path have to be
 -- there too, and else the lowest that isn't is named.
 use Rattle.std.specs.Prelude.{◌≡◌, ℕ, zero, suc, ◌+◌, ◌<◌, Bool, true, false, List, Option, Some, None, if◌then◌else◌}
-use Rattle.inc_tree.specs.Geometry.{shape_of, depth, path_block}
+use Rattle.inc_tree.specs.shape.Geometry.{shape_of, depth, path_block}
 use Rattle.inc_pending.specs.declared.reads.Decision.{Decision}
 use Rattle.inc_pending.specs.declared.reads.Decision.TheVariants.{Stranger as no_read, Hand, TimedOut as late, NotYet as waits}
 use Rattle.inc_pending.specs.Polling.{decision_of, read_of}

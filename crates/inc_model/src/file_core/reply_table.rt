@@ -1,6 +1,6 @@
 // What a file answers to each event.
 ghost use Rattle.std.specs.Prelude.{◌≡◌, ℕ, ◌+◌, ◌*◌, ◌^◌, ◌<◌, ◌≤◌, nat_le, nat_lt, ◌==◌, length, count_by, true, Some, IfOk, OnErr};
-ghost use Rattle.inc_tree.specs.Geometry.{depth, shape_of};
+ghost use Rattle.inc_tree.specs.shape.Geometry.{depth, shape_of};
 ghost use Rattle.inc_pending.specs.Keyed.{lookup};
 ghost use Rattle.inc_pending.specs.Polling.{read_of, waits_on, AreRising};
 ghost use Rattle.inc_model.specs.relation.State.{is_in, has, flight_row, Rise};
@@ -19,7 +19,7 @@ use crate::{
     Reply, Stage, Window,
 };
 use inc_pending::{Decision, MOST_ROWS, look_at, pending_after};
-use inc_ranges::{RangeFault, Ranges, filled};
+use inc_ranges::{Presence, RangeFault, Ranges, filled};
 use inc_tree::{BLOCK_SIZE, Geometry};
 use std::alloc::Global;
 
@@ -37,20 +37,19 @@ fn count_waiting(reads: &[ReadRow], block: u32) -> u32
     count
 }
 
-/// Which of the first so many indices are open.
-#[tactic(auto, using(crate::proofs::executed::Replies::presence_none, crate::proofs::executed::Replies::presence_more))]
-fn list_presence<I: Indices>(
-    alloc: Global,
-    indices: &I,
-    count: u32,
-) -> Result<Vec<bool>, OutOfMemory>
-    ensures value { IfOk result (λ present. present.items ≡ presence (I.lists indices.now).map count) }
-{
-    let mut present = Vec::new(alloc);
-    for index in 0..count {
-        present.push(indices.digest_of(index).is_some())?;
+/// Which indices of the file are open: each is looked up where it is asked for.
+impl<I: Indices> Presence for &FileCore<I> {
+    ghost present = { λ core. presence core.now.state.map (core.now.state.n + core.now.state.m) };
+
+    #[tactic(auto, using(crate::proofs::executed::Replies::presence_count))]
+    fn count(&self) -> usize {
+        self.indices.data_blocks() as usize + self.indices.hash_blocks() as usize
     }
-    Ok(present)
+
+    #[tactic(auto, using(crate::proofs::executed::Replies::presence_at))]
+    fn is_filled(&self, index: u32) -> bool {
+        self.indices.digest_of(index).is_some()
+    }
 }
 
 /// Whether a row is this window's, and its place isn't written.
@@ -273,12 +272,9 @@ impl<I: Indices> FileCore<I> {
         end: u32,
         room: u32,
     ) -> Result<Reply, OutOfMemory>
-        requires total { self.now.state.n + self.now.state.m ≤ MOST_BLOCKS }
         ensures value { IfOk result (λ reply. reply ≡ ranges_reply self.now.state.map (self.now.state.n + self.now.state.m) start end room) }
     {
-        let count = self.indices.data_blocks() + self.indices.hash_blocks();
-        let present = list_presence(alloc, &self.indices, count)?;
-        match filled(alloc, present.as_slice(), start, end, room) {
+        match filled(alloc, self, start, end, room) {
             Ok(Ranges { list, next, more }) => Ok(Reply::Filled { list, next, more }),
             Err(RangeFault::BadRange) => Ok(Reply::BadRange),
             Err(RangeFault::OutOfMemory) => Err(std::alloc::AllocError),

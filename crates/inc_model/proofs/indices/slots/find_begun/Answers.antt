@@ -1,4 +1,4 @@
-use Rattle.std.proofs.Common.{◌≡◌, sym, arith, ◌∙◌}
+use Rattle.std.proofs.Common.{sym, arith, ◌∙◌}
 use Rattle.inc_model.specs.executed.SlotRows.{begun_digest_in}
 use Rattle.inc_model.proofs.lists.SlotLists.{slot_value, slot_past}
 use Rattle.inc_model.proofs.indices.slots.find_begun.Goals as goal

@@ -1,4 +1,4 @@
-use Rattle.std.proofs.Common.{◌≡◌, sym, arith, ◌∙◌}
+use Rattle.std.proofs.Common.{sym, arith, ◌∙◌}
 use Rattle.inc_model.specs.executed.SlotRows.{open_digest}
 use Rattle.inc_model.proofs.lists.SlotLists.{slot_value, slot_past}
 use Rattle.inc_model.proofs.indices.slots.find_open.Goals as goal

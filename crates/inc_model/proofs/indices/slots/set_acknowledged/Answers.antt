@@ -1,4 +1,4 @@
-use Rattle.std.proofs.Common.{◌≡◌, ap, ◌∙◌}
+use Rattle.std.proofs.Common.{ap, ◌∙◌}
 use Rattle.inc_model.specs.executed.SlotRows.{open_digest, begun_digest_in, acknowledged_in_slots}
 use Rattle.inc_model.proofs.lists.SlotLists.{slot_same, marked_set}
 use Rattle.inc_model.specs.declared.indices.slots.Slot.{Slot}

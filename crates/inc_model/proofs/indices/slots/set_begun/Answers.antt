@@ -1,4 +1,4 @@
-use Rattle.std.proofs.Common.{◌≡◌, sym, ap, subst, ◌∙◌}
+use Rattle.std.proofs.Common.{sym, ap, subst, ◌∙◌}
 use Rattle.inc_model.specs.relation.State.{keys_of}
 use Rattle.inc_model.specs.executed.IndexLists.{HasNoOther}
 use Rattle.inc_model.specs.executed.SlotRows.{open_digest, begun_digest_in, acknowledged_mark}

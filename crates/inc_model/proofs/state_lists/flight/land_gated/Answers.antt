@@ -1,8 +1,6 @@
-use Rattle.std.proofs.Common.{◌≡◌, ◌+◌, not, ap, arith, rules, ◌∙◌}
-use Rattle.std.specs.Prelude.{filter, count_by, length, vec_len}
+use Rattle.std.proofs.Common.{ap, arith, rules}
+use Rattle.std.specs.Prelude.{length}
 use Rattle.std.proofs.lemmas.Fn.{filter_same}
-use Rattle.inc_model.specs.declared.words.file_state.FlightRow.{FlightRow}
-use Rattle.inc_model.specs.relation.Stages.{is_gated}
 use Rattle.inc_model.proofs.lists.Flight.{gated_leave}
 use Rattle.inc_model.proofs.state_lists.flight.land_gated.Goals as goal
 

@@ -1,4 +1,4 @@
-use Rattle.std.proofs.Common.{◌≡◌, ◌<◌, length, ap, ◌∙◌, rules}
+use Rattle.std.proofs.Common.{◌<◌, length, ap, ◌∙◌, rules}
 use Rattle.inc_model.specs.executed.IndexLists.{opened_in}
 use Rattle.inc_model.proofs.lists.SlotLists.{lists_opened, holds_opened, counts_fit}
 use Rattle.inc_model.proofs.indices.slots.SlotsIndices.open.Goals as goal

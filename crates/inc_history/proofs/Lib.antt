@@ -1,0 +1,4 @@
+pub mod FreshFile
+pub mod PureFiles
+pub mod Room
+pub mod Rounds

@@ -1,0 +1,4 @@
+pub mod PureLaws
+pub mod PureState
+pub mod PureStep
+pub mod Runs
