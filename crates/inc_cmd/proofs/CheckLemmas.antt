@@ -4,19 +4,19 @@ use Rattle.std.specs.Prelude.{IfSome, IfOk, flat_map, count_by}
 use Rattle.std.specs.Result.{is_ok}
 use Rattle.std.proofs.lemmas.Grind.{flat_map-append}
 use Rattle.std.proofs.lemmas.List.Sums.{sum_by-append}
-use Rattle.inc_layout.specs.Checking.{AreKept, GivesCheck}
-use Rattle.inc_layout.specs.Listed.{listed}
+use Rattle.inc_layout.specs.reading.Checking.{AreKept, GivesCheck}
+use Rattle.inc_layout.specs.opening.Listed.{listed}
 use Rattle.inc_layout.specs.declared.opened.Layout.{Layout}
-use Rattle.inc_layout.specs.StaticRead.{static_reading}
-use Rattle.inc_layout.specs.declared.static_error.StaticError.{StaticError}
-use Rattle.inc_layout.specs.declared.static_error.StaticError.TheVariants as block
+use Rattle.inc_layout.specs.reading.StaticRead.{static_reading}
+use Rattle.inc_layout.specs.declared.reading.static_error.StaticError.{StaticError}
+use Rattle.inc_layout.specs.declared.reading.static_error.StaticError.TheVariants as block
 use Rattle.inc_layout.proofs.ListedLemmas.{listed_more}
 use Rattle.inc_cmd.specs.Commands.Check.{IsCheckOf, bad_line, below, block_count, checked, checked_in, is_good, line_in}
-use Rattle.inc_cmd.specs.Endings.{EndsAs, not_shown_by}
-use Rattle.inc_cmd.specs.Refusals.{reason_of}
+use Rattle.inc_words.specs.Endings.{EndsAs, not_shown_by}
+use Rattle.inc_words.specs.Refusals.{reason_of}
 use Rattle.inc_cmd.specs.declared.commands.check.Checked.{Checked}
-use Rattle.inc_cmd.specs.declared.outcome.Outcome.{Outcome}
-use Rattle.inc_cmd.specs.declared.stop.Stop.{Stop}
+use Rattle.inc_words.specs.declared.outcome.CommandOutcome.{CommandOutcome}
+use Rattle.inc_words.specs.declared.stop.Stop.{Stop}
 
 -- the lines and the number of good ones of the first so many blocks
 pub record CheckedTo (bytes : List ℕ) (layout : Layout) (count : ℕ) (lines : List ℕ) (good : ℕ) : Type 0 where
@@ -62,20 +62,20 @@ told_more (Some bytes) layout count lines more good one is one_is more_is = chec
 -- ---- one block
 
 -- what the device did is no reason, and has no line
-bad_wanted : (index : ℕ) (error : StaticError) (wanted : Result (List ℕ) StaticError) (outcome : Outcome) → GivesCheck (Err error) wanted → EndsAs (not_shown_by index (reason_of error)) outcome
+bad_wanted : (index : ℕ) (error : StaticError) (wanted : Result (List ℕ) StaticError) (outcome : CommandOutcome) → GivesCheck (Err error) wanted → EndsAs (not_shown_by index (reason_of error)) outcome
     → outcome.status.0 ≡ 4 → wanted ≡ Err error
 unfolding reason_of
 bad_wanted index block.ReadFault wanted outcome given ends four = let five : outcome.status.0 ≡ 5 = ends.status_is in absurd (omega arith)
 bad_wanted index block.OutOfMemory wanted outcome given ends four = let six : outcome.status.0 ≡ 6 = ends.status_is in absurd (omega arith)
 bad_wanted index error wanted outcome given ends four = given
 
-pub bad_one : (told : Option (List ℕ)) (layout : Layout) (index : ℕ) (error : StaticError) (outcome : Outcome) → IfSome told (λ bytes. GivesCheck (Err error) (static_reading bytes layout index))
+pub bad_one : (told : Option (List ℕ)) (layout : Layout) (index : ℕ) (error : StaticError) (outcome : CommandOutcome) → IfSome told (λ bytes. GivesCheck (Err error) (static_reading bytes layout index))
     → EndsAs (not_shown_by index (reason_of error)) outcome → outcome.status.0 ≡ 4 → IfSome told (λ bytes. ◌≡◌ {A = ℕ} 0 (cond (is_good bytes layout index) 1 0))
 bad_one None layout index error outcome given ends four = tt
 bad_one (Some bytes) layout index error outcome given ends four =
     sym (ap (λ (r : Result (List ℕ) StaticError). cond (is_ok r) 1 0) (bad_wanted index error (static_reading bytes layout index) outcome given ends four))
 
-pub bad_more : (told : Option (List ℕ)) (layout : Layout) (index : ℕ) (error : StaticError) (outcome : Outcome) (lines more : List ℕ)
+pub bad_more : (told : Option (List ℕ)) (layout : Layout) (index : ℕ) (error : StaticError) (outcome : CommandOutcome) (lines more : List ℕ)
     → IfSome told (λ bytes. GivesCheck (Err error) (static_reading bytes layout index)) → EndsAs (not_shown_by index (reason_of error)) outcome → outcome.status.0 ≡ 4
     → more ≡ lines ++ outcome.text.items → IfSome told (λ bytes. more ≡ lines ++ line_in bytes layout index)
 bad_more None layout index error outcome lines more given ends four more_is = tt
@@ -85,20 +85,20 @@ bad_more (Some bytes) layout index error outcome lines more given ends four more
 -- ---- the whole file
 
 -- the outcome of what was found
-found_outcome : (bytes : List ℕ) (layout : Layout) (found : Checked) (outcome : Outcome) → IsCheckOf bytes layout (block_count layout) found
+found_outcome : (bytes : List ℕ) (layout : Layout) (found : Checked) (outcome : CommandOutcome) → IsCheckOf bytes layout (block_count layout) found
     → EndsAs (checked found.count found.lines.items found.good) outcome → EndsAs (checked_in bytes layout) outcome
 found_outcome bytes layout found outcome is ends =
     subst (λ (n : ℕ). EndsAs (checked n (flat_map (line_in bytes layout) (below (block_count layout))) (count_by (is_good bytes layout) (below (block_count layout)))) outcome) is.count_is
     (subst (λ (lines : List ℕ). EndsAs (checked found.count lines (count_by (is_good bytes layout) (below (block_count layout)))) outcome) is.lines_are
     (subst (λ (n : ℕ). EndsAs (checked found.count found.lines.items n) outcome) is.good_is ends))
 
-pub checked_outcome : (told : Option (List ℕ)) (layout : Layout) (found : Checked) (result : Result Outcome Stop) → IfSome told (λ bytes. IsCheckOf bytes layout (block_count layout) found)
+pub checked_outcome : (told : Option (List ℕ)) (layout : Layout) (found : Checked) (result : Result CommandOutcome Stop) → IfSome told (λ bytes. IsCheckOf bytes layout (block_count layout) found)
     → IfOk result (EndsAs (checked found.count found.lines.items found.good)) → IfSome told (λ bytes. IfOk result (EndsAs (checked_in bytes layout)))
 checked_outcome None layout found result is ends = tt
 checked_outcome (Some bytes) layout found (Ok outcome) is ends = found_outcome bytes layout found outcome is ends
 checked_outcome (Some bytes) layout found (Err stop) is ends = tt
 
 -- the layout of what was opened is the one that was judged
-pub laid_outcome : (told : Option (List ℕ)) (opened layout : Layout) (result : Result Outcome Stop) → opened ≡ layout
+pub laid_outcome : (told : Option (List ℕ)) (opened layout : Layout) (result : Result CommandOutcome Stop) → opened ≡ layout
     → IfSome told (λ bytes. IfOk result (EndsAs (checked_in bytes opened))) → IfSome told (λ bytes. IfOk result (EndsAs (checked_in bytes layout)))
 laid_outcome told opened layout result same ends = subst (λ (l : Layout). IfSome told (λ bytes. IfOk result (EndsAs (checked_in bytes l)))) same ends

@@ -6,17 +6,17 @@ use Rattle.std.proofs.lemmas.Bool.{cases_lt, eqb-true}
 use Rattle.std.proofs.lemmas.Slice.Eq.{bytes_eq-Decides}
 use Rattle.inc_signature.specs.declared.signature.SigInfo.{SigInfo}
 use Rattle.inc_layout.specs.Backing.{IsLaidOut}
-use Rattle.inc_layout.specs.Listed.{listed}
-use Rattle.inc_layout.specs.StaticRead.{MeansReading, static_reading}
+use Rattle.inc_layout.specs.opening.Listed.{listed}
+use Rattle.inc_layout.specs.reading.StaticRead.{MeansReading, static_reading}
 use Rattle.inc_layout.specs.declared.opened.Layout.{Layout}
-use Rattle.inc_layout.specs.declared.static_error.StaticError.{StaticError}
-use Rattle.inc_layout.proofs.ReadMeaning.{reading_means}
+use Rattle.inc_layout.specs.declared.reading.static_error.StaticError.{StaticError}
+use Rattle.inc_layout.proofs.block_read.ReadMeaning.{reading_means}
 use Rattle.inc_cmd.specs.Commands.Check.{AreAllProved, IsGoodBlock, below, block_count, checked_in, checked_status, is_good}
 use Rattle.inc_cmd.specs.Commands.Read.{sig_refusal}
-use Rattle.inc_cmd.specs.Endings.{Ending, EndsAs, unless_refused}
-use Rattle.inc_cmd.specs.Refusals.{root_differs}
-use Rattle.inc_cmd.specs.declared.outcome.Outcome.{Outcome}
-use Rattle.inc_cmd.specs.declared.stop.Stop.{Stop}
+use Rattle.inc_words.specs.Endings.{Ending, EndsAs, unless_refused}
+use Rattle.inc_words.specs.Refusals.{root_differs}
+use Rattle.inc_words.specs.declared.outcome.CommandOutcome.{CommandOutcome}
+use Rattle.inc_words.specs.declared.stop.Stop.{Stop}
 use Rattle.inc_cmd.proofs.CheckLemmas.{one_more}
 
 good_block : (bytes : List ℕ) (layout : Layout) (index : ℕ) (read : Result (List ℕ) StaticError) → MeansReading bytes layout index read → is_ok read ≡ true → IsGoodBlock bytes layout index
@@ -83,7 +83,7 @@ file_proved name bytes root layout stands e =
     let p = passed name root layout.sig (checked_in bytes layout) e in
     record { layout = layout; stands = stands; sig = p.info; signed = p.signed; given = p.given; each = all_good bytes layout stands p.ends }
 
-pub shows_checked : (told : Option (List ℕ)) (name : List ℕ) (root : Option (List ℕ)) (layout : Layout) (result : Result Outcome Stop) → IfSome told (λ bytes. IsLaidOut bytes layout)
+pub shows_checked : (told : Option (List ℕ)) (name : List ℕ) (root : Option (List ℕ)) (layout : Layout) (result : Result CommandOutcome Stop) → IfSome told (λ bytes. IsLaidOut bytes layout)
     → IfSome told (λ bytes. IfOk result (EndsAs (unless_refused name (sig_refusal false root layout.sig) (checked_in bytes layout))))
     → IfSome told (λ bytes. IfOk result (λ outcome. outcome.status.0 ≡ 0 → AreAllProved bytes root))
 shows_checked None name root layout result stands is = tt

@@ -2,7 +2,6 @@ pub mod CheckLemmas
 pub mod GoodBlocks
 pub mod InputLemmas
 pub mod MakeLemmas
-pub mod NumberLemmas
 pub mod OutputLemmas
 pub mod ReadLemmas
 pub mod RunLemmas

@@ -11,13 +11,13 @@ use Rattle.inc_disk.specs.Laws.{LeavesOnly}
 use Rattle.inc_disk.proofs.LogLemmas.{get_contents, joins_images, newest_other, newest_same}
 use Rattle.inc_io.specs.Contents.{Contents}
 use Rattle.inc_recover.specs.Making.{MayBeLeft}
-use Rattle.inc_tree.specs.Geometry.{Shape}
+use Rattle.inc_tree.specs.shape.Geometry.{Shape}
 use Rattle.inc_cmd.specs.Commands.Make.{AddsOnly, LeavesNew, MayBeMade, made, made_text}
-use Rattle.inc_cmd.specs.Endings.{AnswersAs, EndsAs, refused}
-use Rattle.inc_cmd.specs.Refusals.{exists}
+use Rattle.inc_words.specs.Endings.{AnswersAs, EndsAs, refused}
+use Rattle.inc_words.specs.Refusals.{exists}
 use Rattle.inc_cmd.specs.Runs.{IfLogs}
-use Rattle.inc_cmd.specs.declared.outcome.Outcome.{Outcome}
-use Rattle.inc_cmd.specs.declared.stop.Stop.{Stop}
+use Rattle.inc_words.specs.declared.outcome.CommandOutcome.{CommandOutcome}
+use Rattle.inc_words.specs.declared.stop.Stop.{Stop}
 
 -- ---- a shelf that stays as it is
 
@@ -162,14 +162,14 @@ not_false : (b : Bool) → true ≡ not b → false ≡ b
 not_false false e = refl
 not_false true e = absurd (cc)
 
-outcome_stays : (name : List ℕ) (shape : Shape) (fresh : List ℕ) (files : Contents) (stored : Option (List ℕ)) (now : Option Contents) (result : Result Outcome Stop) → is_some stored ≡ true
+outcome_stays : (name : List ℕ) (shape : Shape) (fresh : List ℕ) (files : Contents) (stored : Option (List ℕ)) (now : Option Contents) (result : Result CommandOutcome Stop) → is_some stored ≡ true
     → now ≡ Some files → IfOk result (EndsAs (refused name exists)) → IfOk result (λ outcome. AnswersAs (made name shape fresh files stored) outcome now)
 outcome_stays name shape fresh files None now result there same ends = absurd (cc)
 outcome_stays name shape fresh files (Some bytes) now (Ok outcome) there same ends = record { status_is = ends.status_is; text_is = ends.text_is; after_is = same }
 outcome_stays name shape fresh files (Some bytes) now (Err stop) there same ends = tt
 
 -- nothing was lent, since the name is there
-pub answers_exists : (told now : Option Contents) (log : Option Log) (name : List ℕ) (shape : Shape) (fresh : List ℕ) (result : Result Outcome Stop) → told ≡ option_map contents_of log → now ≡ told
+pub answers_exists : (told now : Option Contents) (log : Option Log) (name : List ℕ) (shape : Shape) (fresh : List ℕ) (result : Result CommandOutcome Stop) → told ≡ option_map contents_of log → now ≡ told
     → IfSome log (λ entries. false ≡ not (is_some (newest_of name entries))) → IfOk result (EndsAs (refused name exists))
     → IfSome told (λ files. IfOk result (λ outcome. AnswersAs (made name shape fresh files (get files name)) outcome now))
 answers_exists told now None name shape fresh result is same found ends =
@@ -178,12 +178,12 @@ answers_exists told now (Some log) name shape fresh result is same found ends =
     subst (λ (t : Option Contents). IfSome t (λ files. IfOk result (λ outcome. AnswersAs (made name shape fresh files (get files name)) outcome now))) (sym is)
     (outcome_stays name shape fresh (contents_of log) (get (contents_of log) name) now result (there_is log name true (not_true (is_some (newest_of name log)) found)) (same ∙ is) ends)
 
-outcome_made : (name : List ℕ) (shape : Shape) (fresh : List ℕ) (files : Contents) (stored : Option (List ℕ)) (now : Option Contents) (outcome : Outcome) → is_some stored ≡ false
+outcome_made : (name : List ℕ) (shape : Shape) (fresh : List ℕ) (files : Contents) (stored : Option (List ℕ)) (now : Option Contents) (outcome : CommandOutcome) → is_some stored ≡ false
     → now ≡ Some (insert files name fresh) → outcome.status.0 ≡ 0 → outcome.text.items ≡ made_text name shape fresh → AnswersAs (made name shape fresh files stored) outcome now
 outcome_made name shape fresh files (Some bytes) now outcome there after status text = absurd (cc)
 outcome_made name shape fresh files None now outcome there after status text = record { status_is = status; text_is = text; after_is = after }
 
-pub answers_made : (told now : Option Contents) (log created after : Option Log) (name : List ℕ) (shape : Shape) (fresh : List ℕ) (lent states : List DiskState) (outcome : Outcome)
+pub answers_made : (told now : Option Contents) (log created after : Option Log) (name : List ℕ) (shape : Shape) (fresh : List ℕ) (lent states : List DiskState) (outcome : CommandOutcome)
     → told ≡ option_map contents_of log → now ≡ option_map contents_of after → IfSome log (λ entries. true ≡ not (is_some (newest_of name entries)))
     → IfSome log (λ log. lent ≡ settled [] ∷ []) → created ≡ option_map (λ log. (name, settled []) ∷ log) log → after ≡ option_map (λ log. entries_of name states ++ log) created
     → LeavesOnly lent states (MayBeLeft fresh) → Now states (λ state. state ≡ settled fresh) → outcome.status.0 ≡ 0 → outcome.text.items ≡ made_text name shape fresh

@@ -6,10 +6,10 @@ use Rattle.inc_cmd.specs.Commands.Check.{AreAllProved, check_ending}
 use Rattle.inc_cmd.specs.Commands.Inspect.{inspect_ending}
 use Rattle.inc_cmd.specs.Commands.Make.{make_answer}
 use Rattle.inc_cmd.specs.Commands.Read.{ShowsBlock, VouchesRead, read_ending}
-use Rattle.inc_cmd.specs.Endings.{Answer, Ending, leaving, misfit, refused}
-use Rattle.inc_cmd.specs.Refusals.{missing}
-use Rattle.inc_cmd.specs.Words as words
-use Rattle.inc_cmd.specs.Words.{Command}
+use Rattle.inc_words.specs.Endings.{Answer, Ending, leaving, misfit, refused}
+use Rattle.inc_words.specs.Refusals.{missing}
+use Rattle.inc_words.specs.Command as words
+use Rattle.inc_words.specs.Command.{Command}
 use Rattle.inc_cmd.specs.declared.commands.FileCommand.{FileCommand}
 use Rattle.inc_cmd.specs.declared.commands.FileCommand.TheVariants as file
 pub mod Check

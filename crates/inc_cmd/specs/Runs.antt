@@ -6,12 +6,12 @@ use Rattle.inc_io.specs.Contents.{Contents}
 use Rattle.inc_disk.specs.Log.{Log}
 use Rattle.inc_cmd.specs.Commands.{ShowsOf, VouchesOf, plain}
 use Rattle.inc_cmd.specs.Commands.Make.{AddsOnly, IsMade, LeavesNew, new_file}
-use Rattle.inc_cmd.specs.Endings.{Answer}
-use Rattle.inc_cmd.specs.Words.{Command, Make, Read, Check, Inspect, Misfit}
+use Rattle.inc_words.specs.Endings.{Answer}
+use Rattle.inc_words.specs.Command.{Command, Make, Read, Check, Inspect, Misfit}
 use Rattle.inc_cmd.specs.declared.commands.FileCommand.TheVariants as file
-use Rattle.inc_cmd.specs.declared.outcome.Outcome.{Outcome}
-use Rattle.inc_cmd.specs.declared.stop.Stop.{Stop}
-use Rattle.inc_cmd.specs.declared.stop.Stop.TheVariants.{Fault, OutOfMemory}
+use Rattle.inc_words.specs.declared.outcome.CommandOutcome.{CommandOutcome}
+use Rattle.inc_words.specs.declared.stop.Stop.{Stop}
+use Rattle.inc_words.specs.declared.stop.Stop.TheVariants.{Fault, OutOfMemory}
 
 -- ---- counts of faults
 
@@ -90,7 +90,7 @@ pub record KeepsInput (left_before left_now : Option (List ℕ)) (ended_before e
 
 -- ---- statuses
 
-abbrev pub status_of : Result Outcome Stop → ℕ
+abbrev pub status_of : Result CommandOutcome Stop → ℕ
 status_of (Ok outcome) = outcome.status.0
 status_of (Err Fault) = 5
 status_of (Err OutOfMemory) = 6

@@ -2,18 +2,14 @@ ghost use Rattle.std.specs.Prelude.{◌≡◌, ◌≢◌, ◌<◌, false, IfSome
 ghost use Rattle.inc_io.specs.Outside.{NoneOut};
 ghost use Rattle.inc_cmd.specs.Commands.{plain};
 ghost use Rattle.inc_cmd.specs.Commands.Make.{most_taken};
-ghost use Rattle.inc_cmd.specs.Endings.{AnswersAs};
+ghost use Rattle.inc_words.specs.Endings.{AnswersAs};
 ghost use Rattle.inc_cmd.specs.Runs.{ChangesOnly, HasCauseIn, IfLogs, IfTold, KeepsInput, KeepsShelf, LeavesFiles, Made, Shows, TakesFront, Vouches, WordsAreTold, given_to, reads_input, status_of};
-ghost use Rattle.inc_cmd.specs.Words.{command_in};
+ghost use Rattle.inc_words.specs.Words.{command_in};
 
-use crate::Status;
 use crate::commands::{FileCommand, make_signed, make_unsigned, over_name};
-use crate::outcome::Outcome;
-use crate::stop::Stop;
-use crate::texts::lines::words_line;
-use crate::words::{Command, WordsFault, parse_words};
 use inc_disk::Shelf;
 use inc_io::Source;
+use inc_words::{Command, CommandOutcome, Status, Stop, WordsFault, parse_words, words_line};
 use std::alloc::Global;
 
 /// Does a command, up to the writing of its text.
@@ -22,7 +18,7 @@ pub fn answer<S: Shelf, I: Source>(
     words: &[String],
     shelf: &mut S,
     input: &mut I,
-) -> Result<Outcome, Stop>
+) -> Result<CommandOutcome, Stop>
     requires { NoneOut (S.out shelf.old) }
     ensures answer { IfTold (command_in words.now) (S.contents (S.kept shelf.old)) (I.left input.old) (λ files given.
         IfOk result (λ outcome. AnswersAs (plain (command_in words.now) files given) outcome (S.contents (S.kept shelf.new)))) }
@@ -79,7 +75,7 @@ pub fn answer<S: Shelf, I: Source>(
             over_name(alloc, &name, FileCommand::Check { root }, shelf)
         }
         Ok(Command::Inspect { name }) => over_name(alloc, &name, FileCommand::Inspect, shelf),
-        Err(WordsFault::Bad { at }) => Ok(Outcome {
+        Err(WordsFault::Bad { at }) => Ok(CommandOutcome {
             status: Status::BAD_WORDS,
             text: words_line(alloc, at)?,
         }),

@@ -4,20 +4,18 @@ ghost use Rattle.std.specs.FinMap.{get};
 ghost use Rattle.inc_io.specs.Causes.{HasCauseAt};
 ghost use Rattle.inc_io.specs.Outside.{NoneOut};
 ghost use Rattle.inc_cmd.specs.Commands.{ShowsOf, VouchesOf, file_ending, stored_ending};
-ghost use Rattle.inc_cmd.specs.Endings.{EndsAs};
-ghost use Rattle.inc_cmd.specs.declared.stop.Stop.TheVariants.{Fault as stop_fault};
+ghost use Rattle.inc_words.specs.Endings.{EndsAs};
+ghost use Rattle.inc_words.specs.declared.stop.Stop.TheVariants.{Fault as stop_fault};
 
 mod check;
 mod inspect;
 mod make;
 mod read;
 
-use crate::outcome::{Outcome, refuse};
-use crate::stop::Stop;
-use crate::texts::refusals::missing;
 use check::check_file;
 use inc_io::{Backing, Name, ReadShelf};
 use inc_tree::Digest32;
+use inc_words::{CommandOutcome, Stop, missing, refuse};
 use inspect::inspect_file;
 pub use make::{make_signed, make_unsigned};
 use read::read_block;
@@ -43,7 +41,7 @@ pub fn over_name<S: ReadShelf>(
     name: &Name,
     command: FileCommand,
     shelf: &mut S,
-) -> Result<Outcome, Stop>
+) -> Result<CommandOutcome, Stop>
     requires { NoneOut (S.out shelf.old) }
     ensures answer { IfSome (S.contents (S.kept shelf.old)) (λ files. IfOk result (EndsAs (stored_ending command name.now (get files name.now)))) }
     ensures shows { IfSome (S.contents (S.kept shelf.old)) (λ files. IfOk result (λ outcome. outcome.status.0 ≡ 0 →
@@ -68,7 +66,7 @@ fn over_file<B: Backing>(
     name: &Name,
     file: &mut B,
     command: FileCommand,
-) -> Result<Outcome, Stop>
+) -> Result<CommandOutcome, Stop>
     ensures answer { IfSome (B.reads (B.kept file.old)) (λ bytes. IfOk result (EndsAs (file_ending command name.now bytes))) }
     ensures shows { IfSome (B.reads (B.kept file.old)) (λ bytes. IfOk result (λ outcome. outcome.status.0 ≡ 0 → ShowsOf command bytes outcome.text.items)) }
     ensures vouched { IfOk result (λ outcome. outcome.status.0 ≡ 0 → VouchesOf command outcome.text.items) }

@@ -3,15 +3,13 @@ ghost use Rattle.inc_io.specs.Causes.{Rose};
 ghost use Rattle.inc_io.specs.Outside.{NoneOut};
 ghost use Rattle.inc_cmd.specs.Commands.Make.{most_taken};
 ghost use Rattle.inc_cmd.specs.Runs.{Appends, AppendsFront, ChangesOnly, EndsAsPlain, HasFailed, IfLogs, IsQuiet, IsTold, KeepsInput, KeepsShelf, LeavesFiles, Made, Prints, PrintsFront, Shows, TakesFront, Vouches, WordsAreTold, given_to, reads_input};
-ghost use Rattle.inc_cmd.specs.Words.{command_in};
+ghost use Rattle.inc_words.specs.Words.{command_in};
 
-use crate::Status;
 use crate::answer::answer;
-use crate::outcome::Outcome;
-use crate::stop::Stop;
 use crate::streams::output::write_all;
 use inc_disk::Shelf;
 use inc_io::{Clock, Sink, Source};
+use inc_words::{CommandOutcome, Status, Stop};
 use std::alloc::Global;
 
 /// Does the command that the words name over a shelf, with what the input gives, writes its text and gives the exit status. Main makes this one call.
@@ -69,7 +67,7 @@ pub fn run_plain<S: Shelf, I: Source, O: Sink, C: Clock>(
 }
 
 /// Writes an outcome's text. The status of bad words stands before that of a fault.
-fn finish<O: Sink>(outcome: Outcome, out: &mut O) -> Status
+fn finish<O: Sink>(outcome: CommandOutcome, out: &mut O) -> Status
     ensures status { IsQuiet (O.faults out.old) (O.faults out.new) → result.0 ≡ outcome.status.0 }
     ensures text { IsQuiet (O.faults out.old) (O.faults out.new) → Appends (O.written out.old) (O.written out.new) outcome.text.items }
     ensures front { AppendsFront (O.written out.old) (O.written out.new) outcome.text.items }

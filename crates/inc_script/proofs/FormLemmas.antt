@@ -4,9 +4,9 @@ use Rattle.std.specs.List.{AllByRecursion}
 use Rattle.std.proofs.lemmas.Bool.{le-leb, ne_eqb}
 use Rattle.inc_script.specs.Forms.{end_word, form_of, line_of, reader_word, span_from, block_span, span_to, block_spans, timeouts_word, with_span}
 use Rattle.inc_script.specs.Lines.{fields_of, part_from}
-use Rattle.inc_script.specs.Numerals.{numeral_of}
+use Rattle.inc_bytes.specs.Decimals.{numeral_of}
 use Rattle.inc_script.specs.Spelling.{IsSpaced, SaysNothing, SpellSpans, SpellsReader, SpellsDashed, SpellsSpan, SpellsTimes, spaces}
-use Rattle.inc_script.specs.declared.forms.ScriptLine.TheVariants.{Passed, TimesOf, ReaderOf, End}
+use Rattle.inc_script.specs.declared.parsing.forms.ScriptLine.TheVariants.{Passed, TimesOf, ReaderOf, End}
 use Rattle.inc_script.specs.declared.script.ReaderLine.{ReaderLine}
 use Rattle.inc_script.specs.declared.script.TimesLine.{TimesLine}
 use Rattle.inc_script.proofs.WordLemmas.{IsWord, before_alone, before_stop, dashed_word, from_alone, from_stop, name_word, number_lacks, number_word, words_read}

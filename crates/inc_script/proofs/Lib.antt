@@ -1,7 +1,6 @@
 pub mod DraftLemmas
 pub mod FormLemmas
 pub mod LineLemmas
-pub mod NumeralLemmas
 pub mod ReadingLemmas
 pub mod ReportLemmas
 pub mod SaidLemmas

@@ -10,8 +10,8 @@ use Rattle.inc_script.specs.Limits.{all_reads, sum_of_reads}
 use Rattle.inc_script.specs.Lines.{lines_of}
 use Rattle.inc_script.specs.Script.{IsRead, with_line, and_on, behind_end, fits_reads, fresh_draft, script_from, script_of, taken, taken_as, with_reader, with_times}
 use Rattle.inc_script.specs.Spelling.{IsSpelled, IsWithinLimits, SaysNothing, SpellLines}
-use Rattle.inc_script.specs.declared.forms.ScriptLine.{ScriptLine}
-use Rattle.inc_script.specs.declared.forms.ScriptLine.TheVariants.{Passed, TimesOf, ReaderOf, End}
+use Rattle.inc_script.specs.declared.parsing.forms.ScriptLine.{ScriptLine}
+use Rattle.inc_script.specs.declared.parsing.forms.ScriptLine.TheVariants.{Passed, TimesOf, ReaderOf, End}
 use Rattle.inc_script.specs.declared.script.ReaderLine.{ReaderLine}
 use Rattle.inc_script.specs.declared.script.Script.{Script}
 use Rattle.inc_script.specs.declared.script.ScriptFault.{ScriptFault}

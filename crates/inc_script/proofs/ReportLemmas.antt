@@ -8,8 +8,8 @@ use Rattle.inc_model.specs.declared.words.outcomes.Found.{Found}
 use Rattle.inc_model.specs.declared.words.outcomes.ReadError.{ReadError}
 use Rattle.inc_script.specs.Limits.{reads_in}
 use Rattle.inc_script.specs.Report.{file_line, indices_of, loader_line, loader_lines, numbers_from, reader_lines, reply_line, reply_lines}
-use Rattle.inc_script.specs.declared.ends.FileLine.{FileLine}
-use Rattle.inc_script.specs.declared.ends.LoaderLine.{LoaderLine}
+use Rattle.inc_script.specs.declared.report_text.ends.FileLine.{FileLine}
+use Rattle.inc_script.specs.declared.report_text.ends.LoaderLine.{LoaderLine}
 use Rattle.inc_script.specs.declared.script.ReaderLine.{ReaderLine}
 
 -- ---- one reader

@@ -8,10 +8,10 @@ use Rattle.inc_io.specs.Names.{is_name}
 use Rattle.inc_pending.specs.declared.timeouts.Times.{Times}
 use Rattle.inc_script.specs.Forms.{end_form, end_word, form_of, line_of, reader_form, reader_line, reader_word, rising_span, span_from, block_span, span_to, block_spans, three_times, timeouts_word, times_form, times_line, times_of_numbers, times_of_words, with_span}
 use Rattle.inc_script.specs.Lines.{fields_from, fields_of, part_before, part_from, with_byte}
-use Rattle.inc_script.specs.Numerals.{numeral_of}
+use Rattle.inc_bytes.specs.Decimals.{numeral_of}
 use Rattle.inc_script.specs.Spelling.{IsSpaced, SaysNothing, SpellSpans, SpellsReader, SpellsSpan, SpellsTimes, spaces}
-use Rattle.inc_script.specs.declared.forms.ScriptLine.{ScriptLine}
-use Rattle.inc_script.specs.declared.forms.ScriptLine.TheVariants.{Passed, TimesOf, ReaderOf, End}
+use Rattle.inc_script.specs.declared.parsing.forms.ScriptLine.{ScriptLine}
+use Rattle.inc_script.specs.declared.parsing.forms.ScriptLine.TheVariants.{Passed, TimesOf, ReaderOf, End}
 use Rattle.inc_script.specs.declared.script.ReaderLine.{ReaderLine}
 use Rattle.inc_script.specs.declared.script.TimesLine.{TimesLine}
 

@@ -1,14 +1,15 @@
 -- Words without a space, a dash or a line feed, and the fields that they are read as.
-use Rattle.std.proofs.Common.{◌≡◌, ℕ, zero, suc, ◌<◌, ◌≤◌, Bool, true, false, cond, ◌&&◌, not, eqb, List, [], ◌∷◌, ◌++◌, length, Some, None, refl, sym, ap, ◌∙◌, arith, append-nil, length-append, inl, inr}
+use Rattle.std.proofs.Common.{◌≡◌, ℕ, zero, suc, ◌<◌, ◌≤◌, Bool, true, false, cond, ◌&&◌, not, eqb, List, [], ◌∷◌, ◌++◌, length, Some, refl, sym, ap, ◌∙◌, arith, append-nil, length-append, inl, inr}
 use Rattle.std.specs.Prelude.{nat_le}
 use Rattle.std.specs.List.{AllByRecursion, list_all}
 use Rattle.std.specs.Str.{all_ascii_digits}
-use Rattle.std.proofs.lemmas.Bool.{and_parts, eqb-false, leb-true, ne_eqb, cases_Bool}
+use Rattle.std.proofs.lemmas.Bool.{and_parts, eqb-false, leb-true, ne_eqb}
 use Rattle.std.proofs.lemmas.Bool.Decides.{eqb_tells}
 use Rattle.std.proofs.lemmas.Str.Parse.{tells_all_ascii_digits}
 use Rattle.inc_io.specs.Names.{IsName, is_name, is_name_byte}
 use Rattle.inc_script.specs.Lines.{fields_from, fields_of, lines_of, part_before, part_from, tail_fields}
-use Rattle.inc_script.specs.Numerals.{is_numeral, numeral_of}
+use Rattle.inc_bytes.specs.Decimals.{numeral_of}
+use Rattle.inc_bytes.proofs.Numerals.{numeral_is}
 use Rattle.inc_script.specs.Spelling.{IsSpaced, spaces}
 use Rattle.inc_script.proofs.LineLemmas.{first_field, line_before, no_space}
 
@@ -108,20 +109,13 @@ digits_lack stop (digit ∷ digits) low h =
     let high : 48 ≤ digit = parts.0.0 in
     lacks_from stop digit digits (ne_eqb digit stop (λ e. omega arith)) (digits_lack stop digits low parts.1)
 
-pub number_is : (most : ℕ) (word : List ℕ) (number : ℕ) → numeral_of most word ≡ Some number → is_numeral word ≡ true
-unfolding numeral_of
-number_is most word number h = elim (cases_Bool (is_numeral word)) [
-  | inl is ↦ is
-  | inr other ↦ absurd (let e : ◌≡◌ None (Some number) = rw other at h in cc)
-]
-
 pub number_lacks : (stop most : ℕ) (word : List ℕ) (number : ℕ) → stop < 48 → numeral_of most word ≡ Some number → lacks stop word ≡ true
 number_lacks stop most word number low h =
-    digits_lack stop word low (and_parts (nat_le 1 (length word) && nat_le (length word) 20) (all_ascii_digits word) (number_is most word number h)).1
+    digits_lack stop word low (and_parts (nat_le 1 (length word) && nat_le (length word) 20) (all_ascii_digits word) (numeral_is most word number h)).1
 
 number_some : (most : ℕ) (word : List ℕ) (number : ℕ) → numeral_of most word ≡ Some number → 0 < length word
 number_some most word number h =
-    let both = and_parts (nat_le 1 (length word) && nat_le (length word) 20) (all_ascii_digits word) (number_is most word number h) in
+    let both = and_parts (nat_le 1 (length word) && nat_le (length word) 20) (all_ascii_digits word) (numeral_is most word number h) in
     let first = and_parts (nat_le 1 (length word)) (nat_le (length word) 20) both.0 in
     let some : 1 ≤ length word = leb-true 1 (length word) first.0 in
     omega arith

@@ -1,16 +1,13 @@
 -- A script that is written out is spelled by its text.
-use Rattle.std.proofs.Common.{◌≡◌, ℕ, ◌-◌, ◌^◌, ◌<◌, ◌≤◌, true, ◌&&◌, List, [], ◌∷◌, ◌++◌, length, map, Some, Result, Ok, refl, sym, ap, ◌∙◌, subst, arith, rules, append_assoc, append-nil, inl, inr}
-use Rattle.std.specs.Prelude.{nat_le, flat_map}
+use Rattle.std.proofs.Common.{◌≡◌, ℕ, ◌-◌, ◌^◌, ◌<◌, ◌≤◌, true, List, [], ◌∷◌, ◌++◌, length, map, Some, Result, Ok, refl, sym, ap, ◌∙◌, subst, arith, append_assoc, append-nil, inl, inr}
+use Rattle.std.specs.Prelude.{flat_map}
 use Rattle.std.specs.Fmt.{decimal}
 use Rattle.std.specs.List.{AllByRecursion}
-use Rattle.std.specs.Str.{all_ascii_digits}
-use Rattle.std.proofs.lemmas.Bool.{and_from, le-leb}
-use Rattle.std.proofs.lemmas.Fmt.{decimal_nonempty, digits_decimal, digits_value-decimal, length-decimal-le}
 use Rattle.std.proofs.lemmas.List.Concat.{flat_map-cons}
-use Rattle.std.proofs.lemmas.Str.Parse.{IsNumeralModel, numerals_by_fold}
 use Rattle.inc_script.specs.Forms.{end_word, reader_word, timeouts_word}
 use Rattle.inc_script.specs.Lines.{lines_of}
-use Rattle.inc_script.specs.Numerals.{is_numeral, numeral_from, numeral_of}
+use Rattle.inc_bytes.specs.Decimals.{numeral_of}
+use Rattle.inc_bytes.proofs.Numerals.{decimal_is}
 use Rattle.inc_script.specs.Script.{IsRead, script_of}
 use Rattle.inc_script.specs.Spelling.{IsSpaced, SpellLines, SpellSpans, SpellsReader, SpellsSpan, SpellsTimes}
 use Rattle.inc_script.specs.Written.{IsReaderLine, IsBlockSpan, IsScript, IsTimesLine, behind_word, line_text, reader_words, script_text, spaced, span_word, times_words}
@@ -22,19 +19,6 @@ use Rattle.inc_script.proofs.SpellingLemmas.{spelled_read}
 use Rattle.inc_script.proofs.WordLemmas.{first_line_is, lacks, lacks-append, name_lacks, number_lacks}
 
 -- ---- numbers
-
-digits : IsNumeralModel (λ word. all_ascii_digits word ≡ true) (numeral_from 0)
-digits = numerals_by_fold _ (search rules) numeral_from (search rules)
-
-decimal_is : (most number : ℕ) → number ≤ most → most < 2 ^ 64 → numeral_of most (decimal number) ≡ Some number
-unfolding numeral_of
-decimal_is most number le small =
-    let fits : number < 2 ^ 64 = omega arith in
-    let short : length (decimal number) ≤ 20 = length-decimal-le 20 number (omega arith) (omega arith) fits in
-    let some = decimal_nonempty number fits in
-    let is : is_numeral (decimal number) ≡ true = and_from (nat_le 1 (length (decimal number)) && nat_le (length (decimal number)) 20) (all_ascii_digits (decimal number))
-    (and_from (nat_le 1 (length (decimal number))) (nat_le (length (decimal number)) 20) (le-leb 1 (length (decimal number)) some) (le-leb (length (decimal number)) 20 short)) (digits_decimal digits number fits) in
-    rw (is, digits_value-decimal digits number fits, le-leb number most le) refl
 
 number_is : (number : ℕ) → number < 2 ^ 32 → numeral_of (2 ^ 32 - 1) (decimal number) ≡ Some number
 number_is number lt = decimal_is (2 ^ 32 - 1) number (omega arith) (omega arith)

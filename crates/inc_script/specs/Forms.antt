@@ -9,11 +9,11 @@ use Rattle.std.specs.Prelude.{◌≡◌, ℕ, ◌-◌, ◌^◌, ◌==◌, nat_le
 use Rattle.inc_io.specs.Names.{is_name}
 use Rattle.inc_pending.specs.declared.timeouts.Times.{Times}
 use Rattle.inc_script.specs.Lines.{fields_of, part_before, part_from}
-use Rattle.inc_script.specs.Numerals.{numeral_of}
-use Rattle.inc_script.specs.declared.forms.LineFault.{LineFault}
-use Rattle.inc_script.specs.declared.forms.LineFault.TheVariants.{Misfit, OutOfMemory}
-use Rattle.inc_script.specs.declared.forms.ScriptLine.{ScriptLine}
-use Rattle.inc_script.specs.declared.forms.ScriptLine.TheVariants.{Passed, TimesOf, ReaderOf, End}
+use Rattle.inc_bytes.specs.Decimals.{numeral_of}
+use Rattle.inc_script.specs.declared.parsing.forms.LineFault.{LineFault}
+use Rattle.inc_script.specs.declared.parsing.forms.LineFault.TheVariants.{Misfit, OutOfMemory}
+use Rattle.inc_script.specs.declared.parsing.forms.ScriptLine.{ScriptLine}
+use Rattle.inc_script.specs.declared.parsing.forms.ScriptLine.TheVariants.{Passed, TimesOf, ReaderOf, End}
 
 -- what was told is the result, and nothing where the result is a misfit. Memory may run out instead.
 abbrev pub IsFormed : {A : Type 0} → Option A → Result A LineFault → Type 0

@@ -2,7 +2,6 @@ pub mod Drafts
 pub mod Forms
 pub mod Limits
 pub mod Lines
-pub mod Numerals
 pub mod Report
 pub mod Script
 pub mod Spelling

@@ -7,14 +7,14 @@ use Rattle.hex.specs.Hex.{encode_lower}
 use Rattle.inc_model.specs.declared.words.outcomes.Found.{Found}
 use Rattle.inc_model.specs.declared.words.outcomes.ReadError.{ReadError}
 use Rattle.inc_model.specs.declared.words.outcomes.ReadError.TheVariants as read
-use Rattle.inc_tree.specs.Path.{block_digest}
-use Rattle.inc_tree.specs.Shown.{is_proved, shown_block, shown_len}
+use Rattle.inc_tree.specs.read_block.Path.{block_digest}
+use Rattle.inc_tree.specs.read_block.Shown.{is_proved, shown_block, shown_len}
 use Rattle.inc_script.specs.Limits.{reads_in}
 use Rattle.inc_script.specs.Words.{fill_word, frame_word}
-use Rattle.inc_script.specs.declared.ends.DriveEnd.{DriveEnd}
-use Rattle.inc_script.specs.declared.ends.DriveEnd.TheVariants as end
-use Rattle.inc_script.specs.declared.ends.FileLine.{FileLine}
-use Rattle.inc_script.specs.declared.ends.LoaderLine.{LoaderLine}
+use Rattle.inc_script.specs.declared.report_text.ends.DriveEnd.{DriveEnd}
+use Rattle.inc_script.specs.declared.report_text.ends.DriveEnd.TheVariants as end
+use Rattle.inc_script.specs.declared.report_text.ends.FileLine.{FileLine}
+use Rattle.inc_script.specs.declared.report_text.ends.LoaderLine.{LoaderLine}
 use Rattle.inc_script.specs.declared.script.ReaderLine.{ReaderLine}
 use Rattle.inc_script.specs.declared.script.Script.{Script}
 

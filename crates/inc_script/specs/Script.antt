@@ -6,8 +6,8 @@ use Rattle.inc_script.specs.Drafts.{DraftState}
 use Rattle.inc_script.specs.Forms.{line_of}
 use Rattle.inc_script.specs.Limits.{all_reads, sum_of_reads}
 use Rattle.inc_script.specs.Lines.{lines_of}
-use Rattle.inc_script.specs.declared.forms.ScriptLine.{ScriptLine}
-use Rattle.inc_script.specs.declared.forms.ScriptLine.TheVariants.{Passed, TimesOf, ReaderOf, End}
+use Rattle.inc_script.specs.declared.parsing.forms.ScriptLine.{ScriptLine}
+use Rattle.inc_script.specs.declared.parsing.forms.ScriptLine.TheVariants.{Passed, TimesOf, ReaderOf, End}
 use Rattle.inc_script.specs.declared.script.ReaderLine.{ReaderLine}
 use Rattle.inc_script.specs.declared.script.Script.{Script}
 use Rattle.inc_script.specs.declared.script.ScriptFault.{ScriptFault}

@@ -6,7 +6,7 @@ use Rattle.inc_io.specs.Names.{IsName}
 use Rattle.inc_script.specs.Forms.{end_word, reader_word, timeouts_word}
 use Rattle.inc_script.specs.Limits.{all_reads}
 use Rattle.inc_script.specs.Lines.{lines_of}
-use Rattle.inc_script.specs.Numerals.{numeral_of}
+use Rattle.inc_bytes.specs.Decimals.{numeral_of}
 use Rattle.inc_script.specs.declared.script.ReaderLine.{ReaderLine}
 use Rattle.inc_script.specs.declared.script.Script.{Script}
 use Rattle.inc_script.specs.declared.script.TheConstants.{MOST_READERS, MOST_READS, MOST_TEXT, MOST_TIMES}

@@ -4,23 +4,16 @@
 //! read, a loader and a file, and `end`.
 #![tactic(auto)]
 
-mod draft;
-mod ends;
-mod fields;
-mod forms;
-mod numerals;
+// The script, and how a text becomes one.
 mod parsing;
-mod replies;
-mod report_text;
 mod script;
-mod spans;
-#[cfg(test)]
-mod tests;
+
+// The report, and the words of faults.
+mod report_text;
 mod words;
 
-pub use ends::{DriveEnd, FileLine, LoaderLine};
 pub use parsing::parse_script;
-pub use report_text::report;
+pub use report_text::{DriveEnd, FileLine, LoaderLine, report};
 pub use script::{
     MOST_READERS, MOST_READS, MOST_TEXT, MOST_TIMES, ReaderLine, Script, ScriptFault, TimesLine,
 };

@@ -5,9 +5,14 @@ ghost use Rattle.inc_script.specs.Spelling.{IsSpelled};
 ghost use Rattle.inc_script.specs.Written.{IsScript, script_text};
 ghost use Rattle.inc_script.specs.declared.script.Script.{Script};
 
-use crate::draft::Draft;
-use crate::fields::first_line;
+mod draft;
+mod fields;
+mod forms;
+mod spans;
+
 use crate::{MOST_TEXT, Script, ScriptFault};
+use draft::Draft;
+use fields::first_line;
 use std::alloc::Global;
 
 /// Reads a script, in time linear in the text's length.

@@ -2,11 +2,15 @@ ghost use Rattle.std.specs.Prelude.{◌≡◌, ℕ, ◌++◌, List, drop, flat_m
 ghost use Rattle.inc_script.specs.Limits.{reads_in};
 ghost use Rattle.inc_script.specs.Report.{end_text, file_line, filled_text, indices_of, last_line, loader_line, loader_lines, log_text, numbers_from, present_text, reader_lines, reply_lines, report_of, told_text};
 
-use crate::replies::reply_line;
+mod ends;
+mod replies;
+
 use crate::words::{fill_word, frame_word};
-use crate::{DriveEnd, FileLine, LoaderLine, OutOfMemory, ReaderLine, Script};
+use crate::{OutOfMemory, ReaderLine, Script};
+pub use ends::{DriveEnd, FileLine, LoaderLine};
 use inc_io::Bytes;
 use inc_model::{Found, ReadError, Rows};
+use replies::reply_line;
 use std::alloc::Global;
 
 /// The text that a session writes in the end.

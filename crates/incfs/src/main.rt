@@ -5,8 +5,9 @@
 mod arguments;
 
 use arguments::words_after_name;
-use inc_cmd::{Status, run_plain};
+use inc_cmd::run_plain;
 use inc_real::{FolderShelf, RealClock, StdSink, StdSource};
+use inc_words::Status;
 use std::process::ExitCode;
 
 fn main(rt: HostRuntime) -> ExitCode {

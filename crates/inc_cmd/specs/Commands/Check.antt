@@ -2,17 +2,17 @@
 use Rattle.std.specs.Prelude.{◌≡◌, ℕ, ◌<◌, ◌++◌, Bool, false, ◌==◌, if◌then◌else◌, List, [], flat_map, count_by, Option, Some, Result, Ok, Err, IfSome}
 use Rattle.std.specs.Result.{is_ok}
 use Rattle.inc_signature.specs.declared.signature.SigInfo.{SigInfo}
-use Rattle.inc_tree.specs.Geometry.{data_blocks}
+use Rattle.inc_tree.specs.shape.Geometry.{data_blocks}
 use Rattle.inc_layout.specs.Backing.{IsLaidOut, laid_of}
-use Rattle.inc_layout.specs.Listed.{listed}
-use Rattle.inc_layout.specs.StaticRead.{IsContent, static_reading}
+use Rattle.inc_layout.specs.opening.Listed.{listed}
+use Rattle.inc_layout.specs.reading.StaticRead.{IsContent, static_reading}
 use Rattle.inc_layout.specs.declared.fault.LayoutFault.{LayoutFault}
 use Rattle.inc_layout.specs.declared.opened.Layout.{Layout}
-use Rattle.inc_layout.specs.declared.static_error.StaticError.{StaticError}
+use Rattle.inc_layout.specs.declared.reading.static_error.StaticError.{StaticError}
 use Rattle.inc_cmd.specs.Commands.Read.{sig_refusal}
-use Rattle.inc_cmd.specs.Endings.{Ending, not_shown_by, refused_by, unless_refused}
-use Rattle.inc_cmd.specs.Refusals.{layout_word, reason_of}
-use Rattle.inc_cmd.specs.Texts.{checked_line}
+use Rattle.inc_words.specs.Endings.{Ending, not_shown_by, refused_by, unless_refused}
+use Rattle.inc_words.specs.Refusals.{layout_word, reason_of}
+use Rattle.inc_words.specs.Texts.{checked_line}
 use Rattle.inc_cmd.specs.declared.commands.check.Checked.{Checked}
 
 -- ---- a block

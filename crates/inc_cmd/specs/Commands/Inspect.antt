@@ -1,19 +1,19 @@
 -- `inspect NAME`: what a file's layout says of itself, in seven lines.
-use Rattle.std.specs.Prelude.{ℕ, ◌++◌, List, [], ◌∷◌, take, drop, count_by, Option, Some, None, Bool, true, false, Result, Ok, Err, codes}
+use Rattle.std.specs.Prelude.{ℕ, ◌++◌, List, [], ◌∷◌, take, drop, count_by, Option, Some, None, Result, Ok, Err, codes}
 use Rattle.std.specs.Fmt.{decimal}
 use Rattle.hex.specs.Hex.{encode_lower}
-use Rattle.inc_tree.specs.Geometry.{Shape, data_blocks, hash_blocks}
+use Rattle.inc_tree.specs.shape.Geometry.{Shape, data_blocks, hash_blocks}
 use Rattle.inc_md.specs.declared.records.SigRecord.{SigRecord}
 use Rattle.inc_signature.specs.declared.signature.SigInfo.{SigInfo}
 use Rattle.inc_entry.specs.Stored.{is_compressed_class, is_damaged_class, is_open_class}
 use Rattle.inc_entry.specs.declared.classes.Class.{Class}
 use Rattle.inc_layout.specs.Backing.{laid_of}
-use Rattle.inc_layout.specs.Fixed.{map_base, map_count}
+use Rattle.inc_layout.specs.fixed.Fixed.{map_base, map_count}
 use Rattle.inc_layout.specs.declared.fault.LayoutFault.{LayoutFault}
 use Rattle.inc_layout.specs.declared.opened.Layout.{Layout}
-use Rattle.inc_cmd.specs.Endings.{Ending, done, refused_by}
-use Rattle.inc_cmd.specs.Refusals.{layout_word}
-use Rattle.inc_cmd.specs.Texts.{part_of}
+use Rattle.inc_words.specs.Endings.{Ending, done, refused_by}
+use Rattle.inc_words.specs.Refusals.{layout_word}
+use Rattle.inc_words.specs.Texts.{part_of}
 
 -- `plain size S id ID`
 unfoldable pub size_line : ℕ → List ℕ → List ℕ

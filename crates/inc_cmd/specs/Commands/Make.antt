@@ -5,15 +5,15 @@ use Rattle.inc_io.specs.Contents.{Contents}
 use Rattle.inc_signature.specs.Signature.{signature_of}
 use Rattle.inc_signature.specs.declared.signature.SigFault.{SigFault}
 use Rattle.inc_signature.specs.declared.signature.SigInfo.{SigInfo}
-use Rattle.inc_tree.specs.Geometry.{Shape, data_blocks, flat_of, hash_blocks, tree_of}
-use Rattle.inc_tree.specs.Limits.{most_size}
+use Rattle.inc_tree.specs.shape.Geometry.{Shape, data_blocks, flat_of, hash_blocks, tree_of}
+use Rattle.inc_tree.specs.shape.Limits.{most_size}
 use Rattle.inc_disk.specs.Disk.{DiskState, settled}
 use Rattle.inc_disk.specs.Log.{Log, MayHaveLeftOf, entries_of, newest_of}
 use Rattle.inc_layout.specs.Fresh.{fresh_of, unsigned_of}
 use Rattle.inc_recover.specs.Making.{MayBeLeft}
-use Rattle.inc_cmd.specs.Endings.{Answer, leaving, refused, refused_by}
-use Rattle.inc_cmd.specs.Refusals.{exists, signature_word, too_large}
-use Rattle.inc_cmd.specs.Texts.{made_line}
+use Rattle.inc_words.specs.Endings.{Answer, leaving, refused, refused_by}
+use Rattle.inc_words.specs.Refusals.{exists, signature_word, too_large}
+use Rattle.inc_words.specs.Texts.{made_line}
 
 -- at most this much of the input is read: one byte more than a blob may have, so that a longer one is refused
 abbrev pub most_taken : ℕ

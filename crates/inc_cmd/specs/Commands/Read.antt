@@ -1,17 +1,17 @@
 -- `read NAME INDEX`: the file's layout is judged, then its signature, and then the block is read.
 use Rattle.std.specs.Prelude.{◌≡◌, ℕ, ◌<◌, All, if◌then◌else◌, Bool, true, false, List, length, take, Option, Some, None, Result, Ok, Err, IfSome, bytes_eq}
 use Rattle.inc_signature.specs.declared.signature.SigInfo.{SigInfo}
-use Rattle.inc_tree.specs.Geometry.{Shape, block_len, data_blocks}
-use Rattle.inc_tree.specs.Path.{IsProof}
-use Rattle.inc_tree.specs.declared.shown.Shown.{Shown}
-use Rattle.inc_tree.specs.declared.shown.Shown.TheVariants.{Proved, Unproved}
+use Rattle.inc_tree.specs.shape.Geometry.{Shape, block_len, data_blocks}
+use Rattle.inc_tree.specs.read_block.Path.{IsProof}
+use Rattle.inc_tree.specs.declared.read_block.shown.Shown.{Shown}
+use Rattle.inc_tree.specs.declared.read_block.shown.Shown.TheVariants.{Proved, Unproved}
 use Rattle.inc_layout.specs.Backing.{IsLaidOut, laid_of}
-use Rattle.inc_layout.specs.StaticRead.{IsContent, static_reading}
+use Rattle.inc_layout.specs.reading.StaticRead.{IsContent, static_reading}
 use Rattle.inc_layout.specs.declared.fault.LayoutFault.{LayoutFault}
 use Rattle.inc_layout.specs.declared.opened.Layout.{Layout}
-use Rattle.inc_layout.specs.declared.static_error.StaticError.{StaticError}
-use Rattle.inc_cmd.specs.Endings.{Ending, done, not_shown_by, refused_by, unless_refused}
-use Rattle.inc_cmd.specs.Refusals.{layout_word, reason_of, root_differs, unsigned}
+use Rattle.inc_layout.specs.declared.reading.static_error.StaticError.{StaticError}
+use Rattle.inc_words.specs.Endings.{Ending, done, not_shown_by, refused_by, unless_refused}
+use Rattle.inc_words.specs.Refusals.{layout_word, reason_of, root_differs, unsigned}
 
 -- ---- the signature
 

@@ -2,21 +2,18 @@
 ghost use Rattle.std.specs.Prelude.{◌≡◌, ◌≢◌, ◌++◌, ◌<◌, ◌≤◌, if◌then◌else◌, false, IfSome, IfOk, IfErr, IsSome};
 ghost use Rattle.inc_io.specs.Causes.{HasCauseAt};
 ghost use Rattle.inc_layout.specs.Backing.{IsBackingFile, IsLaidOut, layout_in};
-ghost use Rattle.inc_layout.specs.Checking.{AreKept};
-ghost use Rattle.inc_layout.specs.Opening.{IsSoundLayout, IsSoundOpened};
+ghost use Rattle.inc_layout.specs.reading.Checking.{AreKept};
+ghost use Rattle.inc_layout.specs.opening.Opening.{IsSoundLayout, IsSoundOpened};
 ghost use Rattle.inc_cmd.specs.Commands.Check.{AreAllProved, IsCheckOf, block_count, check_ending, checked, checked_in, is_good, line_in};
 ghost use Rattle.inc_cmd.specs.Commands.Read.{sig_refusal};
-ghost use Rattle.inc_cmd.specs.Endings.{EndsAs, unless_refused};
-ghost use Rattle.inc_cmd.specs.declared.stop.Stop.TheVariants.{Fault as stop_fault, OutOfMemory as stop_out_of_memory};
+ghost use Rattle.inc_words.specs.Endings.{EndsAs, unless_refused};
+ghost use Rattle.inc_words.specs.declared.stop.Stop.TheVariants.{Fault as stop_fault, OutOfMemory as stop_out_of_memory};
 
 use super::read::sig_refusal;
-use crate::Status;
-use crate::outcome::{Outcome, refuse, refuse_block, refuse_layout};
-use crate::stop::Stop;
-use crate::texts::lines::checked_line;
 use inc_io::{Backing, Name};
 use inc_layout::{KeptPath, Layout, Opened, check_opened, open_digests, open_shape};
 use inc_tree::Digest32;
+use inc_words::{CommandOutcome, Status, Stop, checked_line, refuse, refuse_block, refuse_layout};
 use std::alloc::Global;
 
 /// What a check of a file found.
@@ -34,7 +31,7 @@ pub fn check_file<B: Backing>(
     name: &Name,
     file: &mut B,
     root: Option<Digest32>,
-) -> Result<Outcome, Stop>
+) -> Result<CommandOutcome, Stop>
     ensures answer { IfSome (B.reads (B.kept file.old)) (λ bytes. IfOk result (EndsAs (check_ending name.now root bytes))) }
     ensures shows { IfSome (B.reads (B.kept file.old)) (λ bytes. IfOk result (λ outcome. outcome.status.0 ≡ 0 → AreAllProved bytes root)) }
     ensures words { IfOk result (λ outcome. outcome.status.0 ≢ 1) }
@@ -55,7 +52,7 @@ fn check_laid<B: Backing>(
     file: &mut B,
     layout: Layout,
     root: Option<Digest32>,
-) -> Result<Outcome, Stop>
+) -> Result<CommandOutcome, Stop>
     requires sound { IsSoundLayout layout }
     requires stands { IfSome (B.reads (B.kept file.old)) (λ bytes. IsLaidOut bytes layout) }
     ensures answer { IfSome (B.reads (B.kept file.old)) (λ bytes. IfOk result (EndsAs (unless_refused name.now (sig_refusal false root layout.sig) (checked_in bytes layout)))) }
@@ -75,7 +72,11 @@ fn check_laid<B: Backing>(
 }
 
 /// Checks the blocks of an opened file that is signed.
-fn check_digests<B: Backing>(alloc: Global, file: &mut B, opened: &Opened) -> Result<Outcome, Stop>
+fn check_digests<B: Backing>(
+    alloc: Global,
+    file: &mut B,
+    opened: &Opened,
+) -> Result<CommandOutcome, Stop>
     requires sound { IsSoundOpened opened.now }
     requires signed { IsSome opened.now.sig }
     requires stands { IfSome (B.reads (B.kept file.old)) (λ bytes. IsBackingFile bytes opened.now) }
@@ -89,7 +90,7 @@ fn check_digests<B: Backing>(alloc: Global, file: &mut B, opened: &Opened) -> Re
     show_checked(alloc, found)
 }
 
-fn show_checked(alloc: Global, found: Checked) -> Result<Outcome, Stop>
+fn show_checked(alloc: Global, found: Checked) -> Result<CommandOutcome, Stop>
     ensures outcome { IfOk result (EndsAs (checked found.count found.lines.items found.good)) }
     ensures memory { IfErr result (λ stop. stop ≡ stop_out_of_memory) }
 {
@@ -101,7 +102,7 @@ fn show_checked(alloc: Global, found: Checked) -> Result<Outcome, Stop>
     } else {
         Status::NOT_SHOWN
     };
-    Ok(Outcome { status, text })
+    Ok(CommandOutcome { status, text })
 }
 
 fn check_blocks<B: Backing>(alloc: Global, file: &mut B, opened: &Opened) -> Result<Checked, Stop>

@@ -1,28 +1,30 @@
 // What a file says of itself.
 ghost use Rattle.std.specs.Prelude.{◌≡◌, ◌≢◌, ◌++◌, ◌<◌, ◌≤◌, length, count_by, IfSome, IfOk};
 ghost use Rattle.inc_io.specs.Causes.{HasCauseAt};
-ghost use Rattle.inc_tree.specs.Geometry.{data_blocks};
+ghost use Rattle.inc_tree.specs.shape.Geometry.{data_blocks};
 ghost use Rattle.inc_entry.specs.Stored.{is_compressed_class, is_damaged_class, is_open_class};
-ghost use Rattle.inc_layout.specs.Fixed.{map_base, map_count};
-ghost use Rattle.inc_layout.specs.Opening.{IsSoundLayout};
+ghost use Rattle.inc_layout.specs.fixed.Fixed.{map_base, map_count};
+ghost use Rattle.inc_layout.specs.opening.Opening.{IsSoundLayout};
 ghost use Rattle.inc_cmd.specs.Commands.Inspect.{blob_line, classes_line, damaged_line, filled_line, inspect_ending, inspect_text, map_line, no_root_line, no_signature_line, place_and_size, root_line, sig_line, signature_line, size_line, tree_line};
-ghost use Rattle.inc_cmd.specs.Endings.{EndsAs};
-ghost use Rattle.inc_cmd.specs.declared.stop.Stop.TheVariants.{Fault as stop_fault};
+ghost use Rattle.inc_words.specs.Endings.{EndsAs};
+ghost use Rattle.inc_words.specs.declared.stop.Stop.TheVariants.{Fault as stop_fault};
 
-use crate::outcome::{Outcome, refuse_layout};
-use crate::stop::Stop;
-use crate::texts::lines::part_of;
-use crate::{OutOfMemory, Status};
+use crate::OutOfMemory;
 use inc_entry::Class;
 use inc_io::{Backing, Name};
 use inc_layout::{Layout, open_shape};
 use inc_md::{MapRecord, SigRecord};
 use inc_signature::SigInfo;
 use inc_tree::{Digest32, Geometry};
+use inc_words::{CommandOutcome, Status, Stop, part_of, refuse_layout};
 use std::alloc::Global;
 
 /// Says what a file's layout tells. It reads no block.
-pub fn inspect_file<B: Backing>(alloc: Global, name: &Name, file: &mut B) -> Result<Outcome, Stop>
+pub fn inspect_file<B: Backing>(
+    alloc: Global,
+    name: &Name,
+    file: &mut B,
+) -> Result<CommandOutcome, Stop>
     ensures answer { IfSome (B.reads (B.kept file.old)) (λ bytes. IfOk result (EndsAs (inspect_ending name.now bytes))) }
     ensures words { IfOk result (λ outcome. outcome.status.0 ≢ 1) }
     ensures statuses { IfOk result (λ outcome. outcome.status.0 < 5) }
@@ -30,7 +32,7 @@ pub fn inspect_file<B: Backing>(alloc: Global, name: &Name, file: &mut B) -> Res
     ensures cause { HasCauseAt stop_fault (B.faults file.old) (B.faults file.new) result }
 {
     match open_shape(alloc, file) {
-        Ok(layout) => Ok(Outcome {
+        Ok(layout) => Ok(CommandOutcome {
             status: Status::DONE,
             text: inspect_text(alloc, &layout)?,
         }),

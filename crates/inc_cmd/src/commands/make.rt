@@ -5,27 +5,26 @@ ghost use Rattle.inc_io.specs.Causes.{HasCause, HasCauseAt};
 ghost use Rattle.inc_io.specs.Outside.{NoneOut};
 ghost use Rattle.inc_disk.specs.Disk.{Now, settled};
 ghost use Rattle.inc_disk.specs.Laws.{LeavesOnly};
-ghost use Rattle.inc_tree.specs.Geometry.{data_blocks, flat_of, hash_blocks, tree_of};
+ghost use Rattle.inc_tree.specs.shape.Geometry.{data_blocks, flat_of, hash_blocks, tree_of};
 ghost use Rattle.inc_layout.specs.Fresh.{IsFreshImage, fresh_of, image_of, unsigned_of};
 ghost use Rattle.inc_recover.specs.Making.{MayBeLeft};
 ghost use Rattle.inc_cmd.specs.Commands.Make.{AddsOnly, IsMade, LeavesNew, blob_of, made, make_answer, most_taken, sized};
-ghost use Rattle.inc_cmd.specs.Endings.{AnswersAs, EndsAs};
+ghost use Rattle.inc_words.specs.Endings.{AnswersAs, EndsAs};
 ghost use Rattle.inc_cmd.specs.Runs.{HasEitherCause, IfLogs, TakesFront, status_of};
-ghost use Rattle.inc_cmd.specs.Texts.{made_line};
-ghost use Rattle.inc_cmd.specs.declared.stop.Stop.TheVariants.{Fault as stop_fault, OutOfMemory as stop_out_of_memory};
+ghost use Rattle.inc_words.specs.Texts.{made_line};
+ghost use Rattle.inc_words.specs.declared.stop.Stop.TheVariants.{Fault as stop_fault, OutOfMemory as stop_out_of_memory};
 
-use crate::outcome::{Outcome, refuse};
-use crate::stop::Stop;
+use crate::OutOfMemory;
 use crate::streams::input::read_blob;
-use crate::texts::lines::made_line;
-use crate::texts::refusals::{exists, signature_word, too_large};
-use crate::{OutOfMemory, Status};
 use inc_bytes::Id;
 use inc_disk::{Disk, Shelf};
 use inc_io::{Failed, Name, Source};
 use inc_layout::{FreshFault, FreshImage, fresh_image, fresh_unsigned};
 use inc_recover::make_file;
 use inc_tree::Geometry;
+use inc_words::{
+    CommandOutcome, Status, Stop, exists, made_line, refuse, signature_word, too_large,
+};
 use std::alloc::Global;
 
 /// Makes a new file from the signature blob in the input, which is read before anything is done on the shelf.
@@ -36,7 +35,7 @@ pub fn make_signed<S: Shelf, I: Source>(
     id: Id,
     shelf: &mut S,
     input: &mut I,
-) -> Result<Outcome, Stop>
+) -> Result<CommandOutcome, Stop>
     requires { NoneOut (S.out shelf.old) }
     ensures answer { IfSome (S.contents (S.kept shelf.old)) (λ files. IfSome (I.left input.old) (λ given.
         IfOk result (λ outcome. AnswersAs (make_answer name.now size id false files given) outcome (S.contents (S.kept shelf.new))))) }
@@ -72,7 +71,7 @@ pub fn make_unsigned<S: Shelf>(
     size: u64,
     id: Id,
     shelf: &mut S,
-) -> Result<Outcome, Stop>
+) -> Result<CommandOutcome, Stop>
     requires { NoneOut (S.out shelf.old) }
     ensures answer { IfSome (S.contents (S.kept shelf.old)) (λ files.
         IfOk result (λ outcome. AnswersAs (sized name.now (flat_of size) (unsigned_of size id) files) outcome (S.contents (S.kept shelf.new)))) }
@@ -105,7 +104,7 @@ fn create<S: Shelf>(
     tree: &Geometry,
     image: &FreshImage,
     shelf: &mut S,
-) -> Result<Outcome, Stop>
+) -> Result<CommandOutcome, Stop>
     requires none_out { NoneOut (S.out shelf.old) }
     requires fresh { IsFreshImage (image_of image.now) }
     requires whole { length (image_of image.now) ≡ image.now.len }
@@ -126,7 +125,7 @@ fn create<S: Shelf>(
             let (made, disk) = put_file(disk, image);
             shelf.close_disk(name, disk);
             made?;
-            Ok(Outcome {
+            Ok(CommandOutcome {
                 status: Status::DONE,
                 text: line,
             })

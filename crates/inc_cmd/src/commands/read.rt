@@ -1,22 +1,22 @@
 // A data block of a file, as it is shown.
 ghost use Rattle.std.specs.Prelude.{◌≡◌, ◌≢◌, ◌<◌, true, false, IfSome, IfNone, IfOk, IsSome, None, Some, Err};
 ghost use Rattle.inc_io.specs.Causes.{HasCauseAt};
-ghost use Rattle.inc_tree.specs.Shown.{shown_content};
-ghost use Rattle.inc_tree.specs.Verified.{content_of};
+ghost use Rattle.inc_tree.specs.read_block.Shown.{shown_content};
+ghost use Rattle.inc_tree.specs.read_block.Verified.{content_of};
 ghost use Rattle.inc_layout.specs.Backing.{IsLaidOut};
-ghost use Rattle.inc_layout.specs.Opening.{IsSoundLayout};
+ghost use Rattle.inc_layout.specs.opening.Opening.{IsSoundLayout};
 ghost use Rattle.inc_cmd.specs.Commands.Read.{IsMarked, IsProvedText, ProvesText, ShowsBlock, VouchesRead, read_ending, root_refusal, shown_in, sig_refusal, unsigned_refusal};
-ghost use Rattle.inc_cmd.specs.Endings.{EndsAs};
-ghost use Rattle.inc_cmd.specs.declared.stop.Stop.TheVariants.{Fault as stop_fault};
+ghost use Rattle.inc_words.specs.Endings.{EndsAs};
+ghost use Rattle.inc_words.specs.declared.stop.Stop.TheVariants.{Fault as stop_fault};
 
-use crate::outcome::{Outcome, refuse, refuse_block, refuse_layout};
-use crate::stop::Stop;
-use crate::texts::refusals::{root_differs, unsigned};
-use crate::{OutOfMemory, Status};
+use crate::OutOfMemory;
 use inc_io::{Backing, Name};
 use inc_layout::{Layout, open_shape, show_laid};
 use inc_signature::SigInfo;
 use inc_tree::{Digest32, Shown, Verified};
+use inc_words::{
+    CommandOutcome, Status, Stop, refuse, refuse_block, refuse_layout, root_differs, unsigned,
+};
 use std::alloc::Global;
 
 /// Reads a block of a file. Of the file it reads its layout, the block and the hash blocks on the block's path.
@@ -27,7 +27,7 @@ pub fn read_block<B: Backing>(
     index: u32,
     root: Option<Digest32>,
     unproved: bool,
-) -> Result<Outcome, Stop>
+) -> Result<CommandOutcome, Stop>
     ensures answer { IfSome (B.reads (B.kept file.old)) (λ bytes. IfOk result (EndsAs (read_ending name.now index root unproved bytes))) }
     ensures shows { IfSome (B.reads (B.kept file.old)) (λ bytes. IfOk result (λ outcome. outcome.status.0 ≡ 0 →
         ShowsBlock bytes index root unproved outcome.text.items)) }
@@ -52,7 +52,7 @@ fn read_laid_out<B: Backing>(
     index: u32,
     root: Option<Digest32>,
     unproved: bool,
-) -> Result<Outcome, Stop>
+) -> Result<CommandOutcome, Stop>
     requires sound { IsSoundLayout layout.now }
     requires stands { IfSome (B.reads (B.kept file.old)) (λ bytes. IsLaidOut bytes layout.now) }
     ensures answer { IfSome (B.reads (B.kept file.old)) (λ bytes. IfOk result (EndsAs (shown_in name.now index root unproved bytes layout.now))) }
@@ -117,13 +117,13 @@ fn unsigned_refusal(root: Option<Digest32>, unproved: bool) -> Option<&'static [
 }
 
 /// The outcome of a block that is shown.
-fn show(alloc: Global, block: &Shown) -> Result<Outcome, Stop>
+fn show(alloc: Global, block: &Shown) -> Result<CommandOutcome, Stop>
     ensures done { IfOk result (λ outcome. outcome.status.0 ≡ 0) }
     ensures text { IfOk result (λ outcome. outcome.text.items ≡ shown_content block.now) }
     ensures proved { IfOk result (λ outcome. ProvesText block.now outcome.text.items) }
     ensures memory { result ≢ Err stop_fault }
 {
-    Ok(Outcome {
+    Ok(CommandOutcome {
         status: Status::DONE,
         text: text_of(alloc, block)?,
     })

@@ -2,11 +2,11 @@ ghost use Rattle.std.specs.Prelude.{◌≡◌, ◌≤◌, length, take, IfSome, 
 ghost use Rattle.inc_io.specs.Causes.{HasCause, HasCauseAt};
 ghost use Rattle.inc_cmd.specs.Commands.Make.{blob_of, most_taken};
 ghost use Rattle.inc_cmd.specs.Runs.{TakesFront};
-ghost use Rattle.inc_cmd.specs.declared.stop.Stop.TheVariants.{Fault as stop_fault};
+ghost use Rattle.inc_words.specs.declared.stop.Stop.TheVariants.{Fault as stop_fault};
 
 use crate::OutOfMemory;
-use crate::stop::Stop;
 use inc_io::{Failed, Source};
+use inc_words::Stop;
 use std::alloc::Global;
 
 /// One byte more than a signature blob may have, so that a longer one is refused.

@@ -1,5 +1,5 @@
-use Rattle.inc_cmd.specs.Words.{command_in}
-use Rattle.inc_cmd.proofs.RunLemmas.{front_none, front_sent_of, printed, sent, vouches_sent}
+use Rattle.inc_words.specs.Words.{command_in}
+use Rattle.inc_cmd.proofs.RunLemmas.{front_none, front_sent_of, printed, sent, vouches_sent, words_sent}
 use Rattle.inc_cmd.proofs.run.run_plain.Goals as goal
 
 pub returns-in-Ok-clause-answer : goal.returns-in-Ok-clause-answer
@@ -25,3 +25,7 @@ returns-in-Err-Fault-clause-front g c =
 pub returns-in-Err-OutOfMemory-clause-front : goal.returns-in-Err-OutOfMemory-clause-front
 returns-in-Err-OutOfMemory-clause-front g c =
     front_none (g.S.ReadShelf.contents (g.S.ReadShelf.kept c.args.shelf.now)) (g.I.Source.left c.args.input.now) (command_in c.args.words.now) (g.O.Sink.written c.args.out.now)
+
+pub returns-in-Ok-clause-words : goal.returns-in-Ok-clause-words
+returns-in-Ok-clause-words g c =
+    words_sent (command_in c.args.words.now) c.in-Ok.outcome.status.0 c.finish.result.0 c.in-Ok.ensures.words c.in-Ok.ensures.statuses c.finish.ensures.bad_words c.finish.ensures.good_words

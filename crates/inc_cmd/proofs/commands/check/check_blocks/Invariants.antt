@@ -1,7 +1,7 @@
 use Rattle.std.proofs.Common.{◌≡◌, ◌≤◌}
 use Rattle.std.specs.Prelude.{IfSome}
 use Rattle.inc_layout.specs.Backing.{layout_in}
-use Rattle.inc_layout.specs.Checking.{AreKept}
+use Rattle.inc_layout.specs.reading.Checking.{AreKept}
 use Rattle.inc_cmd.proofs.CheckLemmas.{CheckedTo}
 use Rattle.inc_cmd.proofs.commands.check.check_blocks.Given as goal
 

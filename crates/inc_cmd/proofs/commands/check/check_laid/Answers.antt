@@ -2,7 +2,7 @@ use Rattle.std.proofs.Common.{ℕ, List, false}
 use Rattle.inc_layout.specs.Backing.{layout_in}
 use Rattle.inc_cmd.specs.Commands.Check.{checked_in}
 use Rattle.inc_cmd.specs.Commands.Read.{sig_refusal}
-use Rattle.inc_cmd.specs.Endings.{unless_refused}
+use Rattle.inc_words.specs.Endings.{unless_refused}
 use Rattle.inc_cmd.proofs.CheckLemmas.{laid_outcome}
 use Rattle.inc_cmd.proofs.GoodBlocks.{shows_checked}
 use Rattle.inc_cmd.proofs.ReadLemmas.{passed_sig, unread_file}

@@ -1,7 +1,7 @@
 use Rattle.std.proofs.Common.{◌∙◌, ℕ, refl, sym, ap, rules}
-use Rattle.inc_tree.specs.Geometry.{data_blocks, hash_blocks}
+use Rattle.inc_tree.specs.shape.Geometry.{data_blocks, hash_blocks}
 use Rattle.inc_layout.specs.Fresh.{image_of}
-use Rattle.inc_cmd.specs.Texts.{made_line}
+use Rattle.inc_words.specs.Texts.{made_line}
 use Rattle.inc_cmd.proofs.MakeLemmas.{adds_file, answers_exists, answers_made, leaves_file, leaves_none, lent_out}
 use Rattle.inc_cmd.proofs.commands.make.create.Goals as goal
 

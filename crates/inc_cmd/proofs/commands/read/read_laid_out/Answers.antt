@@ -1,4 +1,4 @@
-use Rattle.inc_layout.specs.StaticRead.{static_reading}
+use Rattle.inc_layout.specs.reading.StaticRead.{static_reading}
 use Rattle.inc_cmd.specs.Commands.Read.{shown}
 use Rattle.inc_cmd.proofs.ReadLemmas.{passed_sig, refused_block}
 use Rattle.inc_cmd.proofs.commands.read.read_laid_out.Goals as goal
