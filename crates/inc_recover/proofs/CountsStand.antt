@@ -20,12 +20,12 @@ use Rattle.inc_disk.specs.Disk.{overwritten}
 use Rattle.inc_entry.specs.Spans.{in_spans}
 use Rattle.inc_entry.specs.Stored.{class_at, digest_of, is_past, stored_digest}
 use Rattle.inc_layout.specs.Backing.{IsBackingFile, fixed_in}
-use Rattle.inc_layout.specs.Fixed.{Fixed, IsFixed, blob_spans, header_span, needs_map}
-use Rattle.inc_layout.specs.SameFixed.{IsSameFixed, is_fixed_byte}
+use Rattle.inc_layout.specs.fixed.Fixed.{Fixed, IsFixed, blob_spans, header_span, needs_map}
+use Rattle.inc_layout.specs.fixed.SameFixed.{IsSameFixed, is_fixed_byte}
 use Rattle.inc_layout.specs.declared.opened.Opened.{Opened}
 use Rattle.inc_entry.proofs.BlockLemmas.{open_inside}
-use Rattle.inc_layout.proofs.LayoutMeaning.{layout_stands}
-use Rattle.inc_layout.proofs.SameFixedLemmas.{fixed_stays}
+use Rattle.inc_layout.proofs.fixed_part.LayoutMeaning.{layout_stands}
+use Rattle.inc_layout.proofs.fixed_part.SameFixedLemmas.{fixed_stays}
 use Rattle.inc_fill.specs.Steps.{count_bytes}
 use Rattle.inc_fill.proofs.Areas.{block_or_spans, in_map, spans_inside, spans_or_map}
 use Rattle.inc_fill.proofs.Classes.{open_parts}

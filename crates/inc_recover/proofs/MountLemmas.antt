@@ -9,12 +9,12 @@ use Rattle.inc_disk.specs.Laws.{EachImage, Goes, LeavesOnly}
 use Rattle.inc_disk.proofs.Moments.{joined, settled_image, started, stays, sync_goes, weaker}
 use Rattle.inc_disk.proofs.States.{torn_overwritten}
 use Rattle.inc_layout.specs.Backing.{IsBackingFile, fixed_in, opened_of}
-use Rattle.inc_layout.specs.Faults.{GivesLayoutFault, GivesOpening}
-use Rattle.inc_layout.specs.Reopening.{IsMountedOn}
+use Rattle.inc_layout.specs.opening.Faults.{GivesLayoutFault, GivesOpening}
+use Rattle.inc_layout.specs.state.Reopening.{IsMountedOn}
 use Rattle.inc_layout.specs.declared.fault.LayoutFault.{LayoutFault}
 use Rattle.inc_layout.specs.declared.fault.LayoutFault.TheVariants.{TooLong, ReadFault, OutOfMemory as NoMemory}
 use Rattle.inc_layout.specs.declared.opened.Opened.{Opened}
-use Rattle.inc_layout.proofs.BackingMeaning.{backing_stands}
+use Rattle.inc_layout.proofs.opened_file.BackingMeaning.{backing_stands}
 use Rattle.inc_fill.specs.Steps.{count_bytes}
 use Rattle.inc_fill.proofs.Going.{length-count_bytes}
 use Rattle.inc_recover.specs.Mounting.{DiffersAt, GivesMountFault, HasOtherCounts, IsCutAtSync, IsOnlySynced, IsSameButCounts, IsUnwritten, MayBeLeftBy, Mends, Mounts, StaysUntold, counted, layout_of, mount_fault, open_data, open_hash, status_with}

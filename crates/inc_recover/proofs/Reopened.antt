@@ -12,13 +12,13 @@ use Rattle.inc_disk.proofs.Moments.{settled_image, started, weaker}
 use Rattle.inc_entry.specs.Keeps.{KeepsEntry, Kind, Acknowledged, Begun, KeptDamaged, KeptCompressed, Shut}
 use Rattle.inc_entry.specs.Stored.{class_at, digest_of, is_compressed_class, is_damaged_class, is_open_class, stored_digest}
 use Rattle.inc_layout.specs.Backing.{IsBackingFile, fixed_in, opened_of}
-use Rattle.inc_layout.specs.Preserves.{MayReopen, Preserves}
-use Rattle.inc_layout.specs.Reopening.{AreApartIn, AreOpened, IsMountedOn}
-use Rattle.inc_layout.specs.State.{IsStateOf, StateParts, has_index, kind_in, kind_of, kind_with, row_digest, unfilled_kind}
+use Rattle.inc_layout.specs.state.Preserves.{MayReopen, Preserves}
+use Rattle.inc_layout.specs.state.Reopening.{AreApartIn, AreOpened, IsMountedOn}
+use Rattle.inc_layout.specs.state.State.{IsStateOf, StateParts, has_index, kind_in, kind_of, kind_with, row_digest, unfilled_kind}
 use Rattle.inc_layout.specs.declared.fault.LayoutFault.{LayoutFault}
 use Rattle.inc_layout.specs.declared.fault.LayoutFault.TheVariants.{TooLong, ReadFault, OutOfMemory as NoMemory}
 use Rattle.inc_layout.specs.declared.opened.Opened.{Opened}
-use Rattle.inc_layout.proofs.BackingMeaning.{stands_backing}
+use Rattle.inc_layout.proofs.opened_file.BackingMeaning.{stands_backing}
 use Rattle.inc_recover.specs.Mounting.{GivesMountFault, HasOtherCounts, IsSameButCounts, MayBeLeftBy, Mounts, StaysUntold, counted, layout_of}
 use Rattle.inc_recover.specs.Reopening.{IsOutsideFault, Reopens}
 use Rattle.inc_recover.specs.declared.fault.MountFault.{MountFault}

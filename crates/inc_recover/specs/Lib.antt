@@ -1,4 +1,3 @@
 pub mod Making
-pub mod OpenedFacts
 pub mod Mounting
 pub mod Reopening

@@ -5,7 +5,7 @@ use Rattle.inc_bytes.specs.Fields.{AreBytes, field}
 use Rattle.inc_header.specs.Header.{header_of}
 use Rattle.inc_header.specs.declared.header.HeaderFault.TheVariants.{Short, BadMagic}
 use Rattle.inc_disk.specs.Disk.{DiskState, is_dirty}
-use Rattle.inc_layout.specs.Fixed.{header_len, most_length}
+use Rattle.inc_layout.specs.fixed.Fixed.{header_len, most_length}
 
 -- eight zeros stand in for the magic number
 abbrev pub blank : List ℕ

@@ -1,6 +1,6 @@
 -- Mounting a backing file: it is settled, opened, and the two counts of its status record are made those of its open blocks.
 use Rattle.std.specs.Prelude.{◌≡◌, ◌⊎◌, ℕ, ◌+◌, ◌^◌, ◌<◌, ◌≤◌, false, nat_le, if◌then◌else◌, List, [], ◌∷◌, length, take, drop, slice_index, option_map, count_by, Result, Ok, Err, OnOk, IfOk, IfErr}
-use Rattle.inc_tree.specs.Geometry.{data_blocks}
+use Rattle.inc_tree.specs.shape.Geometry.{data_blocks}
 use Rattle.inc_io.specs.Causes.{Rose}
 use Rattle.inc_md.specs.Staying.{in_counts}
 use Rattle.inc_md.specs.declared.records.Records.{Records}
@@ -9,7 +9,7 @@ use Rattle.inc_disk.specs.Disk.{DiskState, MayHaveLeft, Now, settled}
 use Rattle.inc_disk.specs.Laws.{Goes, LeavesOnly}
 use Rattle.inc_entry.specs.Stored.{is_open_class}
 use Rattle.inc_layout.specs.Backing.{IsBackingFile, opened_of}
-use Rattle.inc_layout.specs.Reopening.{IsMountedOn}
+use Rattle.inc_layout.specs.state.Reopening.{IsMountedOn}
 use Rattle.inc_layout.specs.declared.fault.LayoutFault.{LayoutFault}
 use Rattle.inc_layout.specs.declared.fault.LayoutFault.TheVariants.{TooLong, ReadFault, OutOfMemory as NoMemory}
 use Rattle.inc_layout.specs.declared.mounted.Mounted.{Mounted}

@@ -2,9 +2,9 @@
 use Rattle.std.specs.Prelude.{◌^◌, ◌≤◌, List, length, Result, IfOk, IfErr}
 use Rattle.inc_disk.specs.Disk.{DiskState, Now}
 use Rattle.inc_disk.specs.Laws.{EachImage, LeavesOnly}
-use Rattle.inc_layout.specs.Preserves.{MayReopen, Preserves}
-use Rattle.inc_layout.specs.Reopening.{AreApartIn, AreOpened}
-use Rattle.inc_layout.specs.State.{StateParts}
+use Rattle.inc_layout.specs.state.Preserves.{MayReopen, Preserves}
+use Rattle.inc_layout.specs.state.Reopening.{AreApartIn, AreOpened}
+use Rattle.inc_layout.specs.state.State.{StateParts}
 use Rattle.inc_layout.specs.declared.fault.LayoutFault.TheVariants.{ReadFault}
 use Rattle.inc_layout.specs.declared.opened.Opened.{Opened}
 use Rattle.inc_recover.specs.declared.fault.MountFault.{MountFault}

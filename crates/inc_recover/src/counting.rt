@@ -1,6 +1,6 @@
 ghost use Rattle.std.specs.Prelude.{◌≡◌, ◌≢◌, ◌+◌, ◌<◌, ◌≤◌, ◌^◌, length, count_by, IfSome, None, Some};
 ghost use Rattle.inc_entry.specs.Stored.{is_open_class};
-ghost use Rattle.inc_layout.specs.Opening.{IsSoundOpened};
+ghost use Rattle.inc_layout.specs.opening.Opening.{IsSoundOpened};
 ghost use Rattle.inc_recover.specs.Mounting.{counted, open_data, open_hash, status_with};
 
 use inc_entry::Class;

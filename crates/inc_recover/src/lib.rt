@@ -7,12 +7,10 @@
 
 mod counting;
 mod fault;
-mod laws;
 mod making;
 mod mounting;
 
 pub use fault::MountFault;
 pub use inc_layout::Mounted;
-pub use laws::opened_files_can_be_filled;
 pub use making::make_file;
 pub use mounting::mount_file;

@@ -2,9 +2,9 @@ ghost use Rattle.std.specs.Prelude.{◌≡◌, ◌⊎◌, ◌+◌, ◌<◌, ◌�
 ghost use Rattle.inc_io.specs.Causes.{HasCause, HasCauseAt};
 ghost use Rattle.inc_disk.specs.Disk.{Now, overwritten, settled};
 ghost use Rattle.inc_disk.specs.Laws.{Goes, LeavesOnly};
-ghost use Rattle.inc_layout.specs.Faults.{GivesOpening};
-ghost use Rattle.inc_layout.specs.Opening.{IsSoundOpened};
-ghost use Rattle.inc_layout.specs.Reopening.{IsMountedOn};
+ghost use Rattle.inc_layout.specs.opening.Faults.{GivesOpening};
+ghost use Rattle.inc_layout.specs.opening.Opening.{IsSoundOpened};
+ghost use Rattle.inc_layout.specs.state.Reopening.{IsMountedOn};
 ghost use Rattle.inc_layout.specs.declared.fault.LayoutFault.TheVariants.{ReadFault as read_fault, TooLong as too_long};
 ghost use Rattle.inc_fill.specs.Steps.{count_bytes};
 ghost use Rattle.inc_recover.specs.Mounting.{DiffersAt, GivesMounted, HasMountCause, IsCutAtSync, IsSameButCounts, IsUnwritten, MayBeLeftBy, Mends, Mounts, StaysUntold, counted, disk_of, layout_of, outcome};

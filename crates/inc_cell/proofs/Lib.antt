@@ -1,0 +1,4 @@
+pub mod handing
+pub mod openings
+pub mod standing
+pub mod steps

@@ -1,0 +1,6 @@
+-- What a poll reads and hands out.
+pub mod GroupLemmas
+pub mod HandLemmas
+pub mod PollLemmas
+pub mod PollSteps
+pub mod ReadLemmas

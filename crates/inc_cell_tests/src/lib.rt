@@ -1,0 +1,25 @@
+//! Tests of a file's cell over whole disks.
+//!
+//! They call what the crates below give out, and stand in a crate of their own because a crate that has tests is proved twice. What they
+//! expect comes from outside: digests and sums of a program that isn't part of this repository, and the words of the format.
+#![tactic(auto)]
+
+// a file of two data blocks, on disks that fail where they are told to
+#[cfg(test)]
+mod files;
+#[cfg(test)]
+mod steps;
+
+// what comes of blocks, fills and reads
+#[cfg(test)]
+mod blocks;
+#[cfg(test)]
+mod events;
+#[cfg(test)]
+mod fills;
+#[cfg(test)]
+mod reads;
+
+// what a crash leaves
+#[cfg(test)]
+mod crashes;

@@ -1,5 +1,0 @@
-use Rattle.inc_recover.proofs.OpenedFacts.{mounts_opened}
-use Rattle.inc_recover.proofs.laws.opened_files_can_be_filled.Goals as goal
-
-pub returns : goal.returns
-returns c = record { mounts = mounts_opened }
