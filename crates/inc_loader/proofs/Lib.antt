@@ -1,0 +1,6 @@
+pub mod ContentLemmas
+pub mod LimitLemmas
+pub mod PieceLemmas
+pub mod QueueLemmas
+pub mod ReadingLemmas
+pub mod SentLemmas

@@ -1,0 +1,9 @@
+pub mod Content
+pub mod ContentPieces
+pub mod Fake
+pub mod Limits
+pub mod Marks
+pub mod PiecesLeft
+pub mod Reading
+pub mod Sent
+pub mod Turns
