@@ -1,6 +1,6 @@
-use crate::files::{FIRST_DIGEST, SECOND_DIGEST, content, fresh_cell};
-use crate::steps::{Cell, ONE};
 use inc_cell::{Answer, CellReply, Digested, NumberList};
+use inc_cell_samples::files::{FIRST_DIGEST, SECOND_DIGEST, content, fresh_cell};
+use inc_cell_samples::steps::{Cell, ONE};
 use inc_fill::padded;
 use inc_model::{FillError, Reply};
 use inc_tree::{Block, Digest32};

@@ -1,6 +1,6 @@
-use crate::files::{FIRST_DIGEST, blocks, fresh_cell};
-use crate::steps::{Came, Cell, ONE, READER, WHOLE, ask, take_all};
 use inc_cell::{Answer, CellReply};
+use inc_cell_samples::files::{FIRST_DIGEST, blocks, fresh_cell};
+use inc_cell_samples::steps::{Came, Cell, ONE, READER, WHOLE, ask, take_all};
 use inc_model::{MOST_ENTRIES, Reply, Times};
 use std::alloc::Global;
 use std::test::Fail;

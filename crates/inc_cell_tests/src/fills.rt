@@ -1,5 +1,5 @@
-use crate::files::{FIRST_DIGEST, HASH, Plan, blocks, bytes_of, cell_of, fresh_cell};
-use crate::steps::{Came, ONE, OTHER, Polled, Step, WHOLE, read, take, take_all};
+use inc_cell_samples::files::{FIRST_DIGEST, HASH, Plan, blocks, bytes_of, cell_of, fresh_cell};
+use inc_cell_samples::steps::{Came, ONE, OTHER, Polled, Step, WHOLE, read, take, take_all};
 use inc_tree::{Block, Digest32};
 use sha2::{Digest, Sha256};
 use std::alloc::Global;

@@ -4,12 +4,6 @@
 //! expect comes from outside: digests and sums of a program that isn't part of this repository, and the words of the format.
 #![tactic(auto)]
 
-// a file of two data blocks, on disks that fail where they are told to
-#[cfg(test)]
-mod files;
-#[cfg(test)]
-mod steps;
-
 // what comes of blocks, fills and reads
 #[cfg(test)]
 mod blocks;
@@ -19,7 +13,3 @@ mod events;
 mod fills;
 #[cfg(test)]
 mod reads;
-
-// what a crash leaves
-#[cfg(test)]
-mod crashes;

@@ -1,9 +1,11 @@
-use crate::files::{
+use inc_cell::{Answer, Digested, HandedBytes};
+use inc_cell_samples::files::{
     FIRST_DIGEST, MANY, Plan, SECOND_DIGEST, blocks, bytes_of, cell_of, content, fresh_cell,
     fresh_flat,
 };
-use crate::steps::{Came, Cell, ONE, Polled, READER, Step, WHOLE, ask, poll, read, take_all};
-use inc_cell::{Answer, Digested, HandedBytes};
+use inc_cell_samples::steps::{
+    Came, Cell, ONE, Polled, READER, Step, WHOLE, ask, poll, read, take_all,
+};
 use std::alloc::Global;
 use std::test::Fail;
 

@@ -15,6 +15,7 @@ fn fill_block(number: u64, index: u32, room: &mut [u8])
     requires { length room.old ≤ 4096 }
     ensures value { room.new ≡ map (generated_byte number) (range_with_len (4096 * index) (length room.old)) }
 {
+    // A place divided by 4096 is the index all over the block, so that each byte is one more than the one before it.
     let start = BLOCK_SIZE as u64 * index as u64;
     let first = ((number % 251 + start + index as u64) % 251) as u32;
     for place in 0..room.len() {

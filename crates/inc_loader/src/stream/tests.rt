@@ -14,25 +14,17 @@ const ID: Id = [
     0x00, 0x11, 0x22, 0x33, 0x44, 0x55, 0x66, 0x77, 0x88, 0x99, 0xaa, 0xbb, 0xcc, 0xdd, 0xee, 0xff,
 ];
 
+// What a loader answers at first and then, over a stream of one piece in this version.
+fn two_answers(alloc: Global, version: u8) -> Result<[u8; 2], AllocError> {
+    let stream = one_piece(alloc, version)?;
+    let mut loader = prepared(alloc, stream, Vec::new(alloc), Vec::new(alloc))?;
+    Ok([answer(&mut loader), answer(&mut loader)])
+}
+
 #[test]
 fn both_versions_are_read_byte_by_byte(rt: HostRuntime) -> Result<(), Fail> {
-    let alloc = rt.alloc();
-    let mut first = prepared(
-        alloc,
-        one_piece(alloc, 1)?,
-        Vec::new(alloc),
-        Vec::new(alloc),
-    )?;
-    assert!(rt; matches!(first.give(), Given::Pieces(_)));
-    assert!(rt; matches!(first.give(), Given::Done));
-    let mut second = prepared(
-        alloc,
-        one_piece(alloc, 2)?,
-        Vec::new(alloc),
-        Vec::new(alloc),
-    )?;
-    assert!(rt; matches!(second.give(), Given::Pieces(_)));
-    assert!(rt; matches!(second.give(), Given::Done));
+    assert_eq!(rt; two_answers(rt.alloc(), 1)?, *b"pd");
+    assert_eq!(rt; two_answers(rt.alloc(), 2)?, *b"pd");
     Ok(())
 }
 

@@ -1,5 +1,7 @@
-use crate::files::{FIRST_DIGEST, HASH, Plan, ROOT, SECOND_DIGEST, blocks, cell_of, fresh};
-use crate::steps::{ONE, OTHER, Step, WHOLE, take_all};
+use inc_cell_samples::files::{
+    FIRST_DIGEST, HASH, Plan, ROOT, SECOND_DIGEST, blocks, cell_of, fresh,
+};
+use inc_cell_samples::steps::{ONE, OTHER, Step, WHOLE, take_all};
 use inc_disk::MemDisk;
 use inc_io::Bytes;
 use inc_layout::Opened;
