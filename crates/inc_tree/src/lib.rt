@@ -23,7 +23,9 @@ pub use block::{Block, Path};
 pub use content_tree::{HashLevel, Tree, TreeFault, build, collision, tree_over};
 pub use digest::{digest_block, digest_blocks, digest_four};
 pub use geometry::{Geometry, TooLarge};
-pub use read_block::{Broken, Shown, Unproved, Verified, check_path, slot_digest, verify};
+pub use read_block::{
+    Broken, Shown, Unproved, Verified, check_path, slot_digest, verify, verify_digested,
+};
 
 /// A SHA-256 digest (FIPS 180-4): 32 bytes.
 pub type Digest32 = [u8; DIGEST_SIZE];

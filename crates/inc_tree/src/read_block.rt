@@ -8,4 +8,4 @@ mod verified;
 pub use path::{Broken, check_path, slot_digest};
 pub use shown::Shown;
 pub use unproved::Unproved;
-pub use verified::{Verified, verify};
+pub use verified::{Verified, verify, verify_digested};

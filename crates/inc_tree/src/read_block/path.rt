@@ -39,8 +39,32 @@ pub fn check_path(
     // There are few levels, so that their number fits.
     let _depth = tree.depth();
     let digests = level_digests(bytes, path.as_slice());
+    compare_levels(root, tree, index, bytes, path.as_slice(), &digests)
+}
+
+// Compares the digests of a path's levels, which are at hand, with what stands for them: slots of the hash blocks, and at last the root.
+// The data block itself isn't looked at: it is here so that the clauses can name it.
+pub(super) fn compare_levels(
+    root: &Digest32,
+    tree: &Geometry,
+    index: u32,
+    _bytes: &[u8],
+    path: &[Block],
+    digests: &[Digest32],
+) -> Result<(), Broken>
+    requires full { length path.now ≡ depth tree.now }
+    requires count { length path.now < length digests.now }
+    requires digested { (level : ℕ) → level ≤ length path.now → slice_index_or digests.now level [] ≡ digest_below _bytes.now path.now level }
+    ensures ok { OnOk result (IsProof root.now tree.now index _bytes.now path.now) }
+    ensures broken { IfErr result (λ broken. NamesBreak root.now index _bytes.now path.now broken.level broken.wanted broken.got) }
+    ensures computed { MatchResult result
+        (λ _. first_break root.now index _bytes.now path.now ≡ None)
+        (λ broken. first_break root.now index _bytes.now path.now ≡ Some broken.level) }
+{
+    // There are few levels, so that their number fits.
+    let _depth = tree.depth();
     let mut level: u32 = 0;
-    for block in path.as_slice() {
+    for block in path {
         let wanted = slot_digest(block, tree.path_slot(index, level));
         let got = digests[level as usize];
         if got != wanted {

@@ -6,7 +6,7 @@ ghost use Rattle.inc_tree.specs.read_block.Path.{IsProof};
 mod check;
 
 use crate::{Block, Digest32, Geometry, Path};
-pub use check::verify;
+pub use check::{verify, verify_digested};
 
 /// A data block whose path was checked. `verify` alone makes one.
 #[derive(Drop)]

@@ -1,10 +1,12 @@
 // The one maker of checked blocks.
-ghost use Rattle.std.specs.Prelude.{◌≡◌, ◌<◌, false, length, OnOk, IfOk, IfErr};
+ghost use Rattle.std.specs.Prelude.{◌≡◌, ◌<◌, false, ◌∷◌, length, map, OnOk, IfOk, IfErr};
 ghost use Rattle.inc_tree.specs.shape.Geometry.{data_blocks, depth};
-ghost use Rattle.inc_tree.specs.read_block.Path.{IsProof, NamesBreak};
+ghost use Rattle.inc_tree.specs.read_block.Path.{IsProof, NamesBreak, padded};
 ghost use Rattle.inc_tree.specs.read_block.Verified.{IsMadeOf, content_at};
+ghost use Rattle.sha2.specs.Sha256.{sha256};
 
 use super::{Made, Verified};
+use crate::read_block::path::compare_levels;
 use crate::{Block, Broken, Digest32, Geometry, Path, check_path};
 
 /// Checks a data block and keeps it with its path. What stands in `bytes` after the block's length is put to zeros before, as the block
@@ -27,6 +29,46 @@ pub fn verify(
     let len = tree.block_len(index);
     bytes.clear_from(len);
     check_path(root, tree, index, bytes.as_slice(), &path)?;
+    Ok(Verified {
+        root: *root,
+        geometry: *tree,
+        index,
+        len,
+        bytes,
+        path,
+        made: Made,
+    })
+}
+
+/// The same where the digests are at hand, that of the block first and then those of its path from the leaf level upwards: nothing is
+/// hashed. The block has its zeros. It takes no memory.
+pub fn verify_digested(
+    root: &Digest32,
+    tree: &Geometry,
+    index: u32,
+    bytes: Block,
+    path: Path,
+    digests: &[Digest32],
+) -> Result<Verified, Broken>
+    requires tree { tree.now.flat ≡ false }
+    requires here { index < data_blocks tree.now }
+    requires full { length path ≡ depth tree.now }
+    requires zeros { bytes ≡ padded (content_at tree.now index bytes) }
+    requires digested { digests.now ≡ map sha256 (bytes ∷ path) }
+    ensures made { IfOk result (λ block. IsMadeOf root.now tree.now index bytes path block) }
+    ensures ok { OnOk result (IsProof root.now tree.now index (content_at tree.now index bytes) path) }
+    ensures broken { IfErr result (λ broken.
+        NamesBreak root.now index (content_at tree.now index bytes) path broken.level broken.wanted broken.got) }
+{
+    let len = tree.block_len(index);
+    compare_levels(
+        root,
+        tree,
+        index,
+        bytes.as_slice(),
+        path.as_slice(),
+        digests,
+    )?;
     Ok(Verified {
         root: *root,
         geometry: *tree,
