@@ -1,5 +1,5 @@
 mod CountWrites
 mod CountsStand
 pub mod Made
-mod MountLemmas
-mod Reopened
+pub mod MountLemmas
+pub mod Reopened

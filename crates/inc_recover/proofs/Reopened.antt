@@ -31,11 +31,11 @@ use Rattle.inc_recover.proofs.MountLemmas.{layout_backing}
 one_ok : (x y : Opened) (r : Result Opened LayoutFault) → r ≡ Ok x → r ≡ Ok y → x ≡ y
 one_ok x y r e f = cc
 
-one_opened : (bytes : List ℕ) (opened other : Opened) → IsBackingFile bytes opened → IsBackingFile bytes other → opened ≡ other
+pub one_opened : (bytes : List ℕ) (opened other : Opened) → IsBackingFile bytes opened → IsBackingFile bytes other → opened ≡ other
 one_opened bytes opened other stands also = one_ok opened other (opened_of bytes) (stands_backing bytes opened stands) (stands_backing bytes other also)
 
 -- the indices of the state are those of the file
-all_entries : (opened : Opened) (parts : StateParts) → IsStateOf opened parts → entries (area_places opened.areas) ≡ parts.data_count + parts.hash_count
+pub all_entries : (opened : Opened) (parts : StateParts) → IsStateOf opened parts → entries (area_places opened.areas) ≡ parts.data_count + parts.hash_count
 all_entries opened parts state = omega (arith, state.data_is, state.hash_is)
 
 -- ---- other counts keep the state
@@ -64,7 +64,7 @@ others_preserve bytes other parts keeps has =
           same_keeps (area_places opened.areas) bytes other i (kind_in parts i) (still.class_is i here) (still.digest_is i here) (keeps.each i lt);
     }
 
-same_preserves : (bytes other : List ℕ) (parts : StateParts) → Preserves bytes parts → IsSameButCounts bytes other → Preserves other parts
+pub same_preserves : (bytes other : List ℕ) (parts : StateParts) → Preserves bytes parts → IsSameButCounts bytes other → Preserves other parts
 same_preserves bytes other parts keeps (inl same) = subst (λ (b : List ℕ). Preserves b parts) (sym same) keeps
 same_preserves bytes other parts keeps (inr has) = others_preserve bytes other parts keeps has
 
@@ -91,7 +91,7 @@ kind_is parts i = refl
 class_told : (bytes : List ℕ) (opened : Opened) (i : ℕ) → IsBackingFile bytes opened → i < entries (area_places opened.areas) → slice_index_or opened.classes i Closed ≡ class_at (area_places opened.areas) bytes i
 class_told bytes opened i stands lt = get_or_default opened.classes i Closed Damaged (omega (arith, stands.laid.class_count, lt)) ∙ stands.laid.each_class i lt
 
-own_preserves : (bytes : List ℕ) (opened : Opened) (after : StateParts) → IsBackingFile bytes opened → AreOpened opened after → Preserves bytes after
+pub own_preserves : (bytes : List ℕ) (opened : Opened) (after : StateParts) → IsBackingFile bytes opened → AreOpened opened after → Preserves bytes after
 own_preserves bytes opened after stands own =
     let places : Places = area_places opened.areas in
     let count = all_entries opened after own.state in
@@ -279,7 +279,7 @@ accepts old new (Err fault) bytes parts keeps mounts short =
     outside_fault fault keeps.opened (subst (λ (r : Result Opened LayoutFault). GivesMountFault fault r) (layout_short bytes keeps.opened keeps.stands short) mounts.answer)
 
 -- the counts are no part of a state
-counted_own : (opened : Opened) (after : StateParts) → AreOpened (counted opened) after → AreOpened opened after
+pub counted_own : (opened : Opened) (after : StateParts) → AreOpened (counted opened) after → AreOpened opened after
 counted_own opened after own = record {
   state = record { id_is = own.state.id_is; root_is = own.state.root_is; data_is = own.state.data_is; hash_is = own.state.hash_is };
   damaged_is = own.damaged_is;
