@@ -121,6 +121,8 @@ impl<D: Disk> FileCell<D> {
         ensures legal { IsLegal 0 (tells self.now.states) self.now.opening self.now.history }
         // Whatever a crash leaves now keeps the state that they lead to, so that a run may begin here.
         ensures runs { CellRuns self.now self.now }
+        // The disk reads as a file in which all is kept and the whole map is open.
+        ensures reads { Now self.now.states (λ disk. ReadsAs self.now.opened (state_now self.now) disk.reads) }
     {
         self.book.entries()
     }
