@@ -1,0 +1,6 @@
+pub mod Headers
+pub mod Keeping
+pub mod StandingMeaning
+pub mod SurveyMeaning
+pub mod Told
+pub mod VerdictMeaning

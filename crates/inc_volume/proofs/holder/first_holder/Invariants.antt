@@ -1,0 +1,16 @@
+use Rattle.std.proofs.Common.{◌≡◌, length}
+use Rattle.std.specs.Prelude.{IfSome}
+use Rattle.inc_io.specs.Outside.{NoneOut}
+use Rattle.inc_volume.specs.Verdicts.{first_holder}
+use Rattle.inc_volume.proofs.holder.first_holder.Given as goal
+
+abbrev pub invariant-loop-rest : goal.invariant-loop-rest
+invariant-loop-rest g l = record {
+  answer : IfSome (g.S.ReadShelf.contents (g.S.ReadShelf.kept l.shelf)) (λ files. first_holder files l.id l.rest ≡ first_holder files l.id l.names);
+  kept : g.S.ReadShelf.kept l.shelf ≡ g.S.ReadShelf.kept l.initial.shelf;
+  back : NoneOut (g.S.ReadShelf.out l.shelf);
+  quiet : g.S.ReadShelf.faults l.shelf ≡ g.S.ReadShelf.faults l.initial.shelf;
+}
+
+abbrev pub decreases-loop-rest : goal.decreases-loop-rest
+decreases-loop-rest g l = length l.rest

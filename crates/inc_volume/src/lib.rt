@@ -1,0 +1,22 @@
+//! Many files of one shelf: one verdict for each name.
+//!
+//! A name's verdict follows from what stands on the shelf alone: a plain file is good where no file with a lower name keeps its id, and a
+//! mapped file where a plain file keeps its original's id and is long enough. `survey` judges all names, and `judge` one of them, for
+//! which it opens no file of another id beyond its header. Neither reads a block or changes anything.
+#![tactic(auto)]
+
+mod holder;
+mod judging;
+mod laws;
+mod listing;
+mod standing;
+mod verdict;
+
+pub use holder::{Holder, find_holder};
+pub use judging::judge;
+pub use laws::standings_mean;
+pub use listing::{VerdictList, survey};
+pub use standing::Standing;
+pub use verdict::Verdict;
+
+type OutOfMemory = std::alloc::AllocError;
