@@ -36,17 +36,17 @@ pub read_joined : (input : Option (List ℕ)) (read first : List ℕ) (gave whol
 read_joined input read first gave whole state refused source_ended coming h =
     (first ++ h.0, subst (λ (bytes : List ℕ). IsReadStream input bytes gave whole state refused source_ended coming) (append_assoc read first h.0) h.1)
 
-pub not_refused : (state : StreamState) (source_ended : Bool) → fault_of state ≡ None → IsRefusedStream state source_ended None
-not_refused (Faulty own) source_ended fine = absurd cc
-not_refused (Ended count) source_ended fine = refl
-not_refused (Greeting seen) source_ended fine = tt
-not_refused (Framing limit count rest) source_ended fine = tt
+pub not_refused : (state : StreamState) (source_ended : Bool) (coming : Option (List ℕ)) → fault_of state ≡ None → IsRefusedStream state source_ended coming None
+not_refused (Faulty own) source_ended coming fine = absurd cc
+not_refused (Ended count) source_ended coming fine = refl
+not_refused (Greeting seen) source_ended coming fine = tt
+not_refused (Framing limit count rest) source_ended coming fine = tt
 
 -- what was taken in where no piece was whole before
 pub taken_in : (input : Option (List ℕ)) (read bytes : List ℕ) (gave old pieces : List Piece) (before after : StreamState) (refused now : Option FrameFault) (source_ended : Bool)
     (rest : Option (List ℕ)) → old ≡ [] → IsReadStream input read gave old before refused source_ended (before_rest bytes rest)
     → (stream_front read ≡ record { pieces = gave; state = before } → stream_front (read ++ bytes) ≡ record { pieces = gave ++ pieces; state = after })
-    → IsRefusedStream after source_ended now
+    → IsRefusedStream after source_ended (before_rest [] rest) now
     → (more : List ℕ) × IsReadStream input (read ++ more) gave pieces after now source_ended (before_rest [] rest)
 taken_in input read bytes gave old pieces before after refused now source_ended rest none h on fault =
     let all : gave ++ old ≡ gave = ap (λ (ps : List Piece). gave ++ ps) none ∙ append-nil gave in (

@@ -1,5 +1,5 @@
 -- What a loader that reads a stream has made of the bytes that it read.
-use Rattle.std.specs.Prelude.{◌≡◌, ℕ, Bool, true, ◌&&◌, ◌||◌, ◌==◌, not, List, [], ◌++◌, length, Option, Some, None, is_some, option_map, ⊤}
+use Rattle.std.specs.Prelude.{◌≡◌, ℕ, Bool, true, ◌&&◌, ◌||◌, ◌==◌, not, List, [], ◌++◌, length, Option, Some, None, is_some, option_map, IfSome, ⊤}
 use Rattle.inc_frame.specs.Fronts.{StreamState, Greeting, Framing, Ended, Faulty, has_ended, stream_front}
 use Rattle.inc_frame.specs.declared.piece.Piece.{Piece}
 use Rattle.inc_frame.specs.declared.fault.FrameFault.{FrameFault}
@@ -11,14 +11,18 @@ use Rattle.inc_loader.specs.declared.turn.Given.TheVariants as given
 abbrev pub before_rest : List ℕ → Option (List ℕ) → Option (List ℕ)
 before_rest bytes rest = option_map (λ left. bytes ++ left) rest
 
+-- the source has met its end and, where it tells what comes, nothing comes
+abbrev pub IsAtEnd : Bool → Option (List ℕ) → Type 0
+IsAtEnd source_ended coming = (source_ended ≡ true) × IfSome coming (λ bytes. bytes ≡ [])
+
 -- a stream is refused for its own fault, or where its source was at an end before the stream was
-abbrev pub IsRefusedStream : StreamState → Bool → Option FrameFault → Type 0
-IsRefusedStream (Faulty own) source_ended refused = refused ≡ Some own
-IsRefusedStream (Ended count) source_ended refused = refused ≡ None
-IsRefusedStream (Greeting seen) source_ended None = ⊤
-IsRefusedStream (Greeting seen) source_ended (Some fault) = (fault ≡ Cut (length seen)) × (source_ended ≡ true)
-IsRefusedStream (Framing limit count rest) source_ended None = ⊤
-IsRefusedStream (Framing limit count rest) source_ended (Some fault) = (fault ≡ Cut count) × (source_ended ≡ true)
+abbrev pub IsRefusedStream : StreamState → Bool → Option (List ℕ) → Option FrameFault → Type 0
+IsRefusedStream (Faulty own) source_ended coming refused = refused ≡ Some own
+IsRefusedStream (Ended count) source_ended coming refused = refused ≡ None
+IsRefusedStream (Greeting seen) source_ended coming None = ⊤
+IsRefusedStream (Greeting seen) source_ended coming (Some fault) = (fault ≡ Cut (length seen)) × IsAtEnd source_ended coming
+IsRefusedStream (Framing limit count rest) source_ended coming None = ⊤
+IsRefusedStream (Framing limit count rest) source_ended coming (Some fault) = (fault ≡ Cut count) × IsAtEnd source_ended coming
 
 -- Of an input, where its source tells it, it read these bytes and has the rest to come; of them it gave these pieces and has these
 -- whole ones left; and it is refused exactly where these bytes have a fault.
@@ -26,7 +30,7 @@ pub record IsReadStream (input : Option (List ℕ)) (read : List ℕ) (gave whol
     (coming : Option (List ℕ)) : Type 0 where
   pub input_is : input ≡ before_rest read coming
   pub front_is : stream_front read ≡ record { pieces = gave ++ whole; state = state }
-  pub refused_is : IsRefusedStream state source_ended refused
+  pub refused_is : IsRefusedStream state source_ended coming refused
 
 -- it needn't read on: a piece is whole, or the stream has its fault or its end
 abbrev pub needs_no_read : List Piece → Option FrameFault → StreamState → Bool

@@ -22,7 +22,7 @@ pub use gen_loader::GenLoader;
 pub use loader::Loader;
 pub use loader_file::{FileList, LoaderFile};
 pub use mark::PieceMark;
-pub use stream::StreamLoader;
+pub use stream::{PieceReader, ReadStop, StreamLoader};
 pub use turn::{Given, LoaderTurn};
 
 /// The one answer that no clause ties to a cause: the allocator refused.

@@ -1,9 +1,9 @@
 // A loader on the other side of two streams: pieces come in, requests go out.
 ghost use Rattle.std.specs.Prelude.{◌≡◌, ◌≤◌, [], true, false, None, IfOk};
 
-mod inlet;
 mod loading;
 mod outlet;
+mod piece_reader;
 mod stop;
 #[cfg(test)]
 mod tests;
@@ -11,8 +11,8 @@ mod tests;
 use crate::OutOfMemory;
 use crate::held::Held;
 use inc_io::{Sink, Source};
-use inlet::Inlet;
 use outlet::Outlet;
+pub use piece_reader::PieceReader;
 use std::alloc::Global;
 pub use stop::ReadStop;
 
@@ -20,7 +20,8 @@ pub use stop::ReadStop;
 #[derive(Drop)]
 pub struct StreamLoader<I: Source + Drop, O: Sink + Drop> {
     held: Held,
-    inlet: Inlet<I>,
+    input: I,
+    inlet: PieceReader,
     outlet: Outlet<O>,
 }
 
@@ -35,13 +36,13 @@ impl<I: Source + Drop, O: Sink + Drop> StreamLoader<I, O> {
     pub fn new(alloc: Global, input: I, out: O) -> Result<StreamLoader<I, O>, OutOfMemory>
         ensures fresh { IfOk result (λ loader. IsFreshLoader loader.held.files loader.held.told.items loader.held.given.items
             loader.inlet.refused (has_given_all loader.inlet.whole.items loader.inlet.reader.state) loader.held.stopped) }
-        ensures unread { IfOk result (λ loader. (loader.inlet.input ≡ input) × (loader.inlet.reader.state ≡ Greeting [])
+        ensures unread { IfOk result (λ loader. (loader.input ≡ input) × (loader.inlet.reader.state ≡ Greeting [])
             × (loader.inlet.whole.items ≡ []) × (loader.inlet.refused ≡ None)) }
         ensures unsent { IfOk result (λ loader. (loader.outlet.out ≡ out)
             × (loader.outlet.second ≡ false) × (loader.outlet.greeted ≡ false)) }
         ensures reads { IfOk result (λ loader. IsReadStream (I.left input) [] [] loader.inlet.whole.items loader.inlet.reader.state
-            loader.inlet.refused (I.ended loader.inlet.input)
-            (before_rest (take loader.inlet.filled loader.inlet.room.items) (I.left loader.inlet.input))) }
+            loader.inlet.refused (I.ended loader.input)
+            (before_rest (take loader.inlet.filled loader.inlet.room.items) (I.left loader.input))) }
         ensures sends { IfOk result (λ loader. HasRequests (O.written out) (O.written loader.outlet.out) loader.outlet.second
             loader.outlet.greeted loader.held.told.items) }
     {
@@ -52,13 +53,13 @@ impl<I: Source + Drop, O: Sink + Drop> StreamLoader<I, O> {
     pub fn new2(alloc: Global, input: I, out: O) -> Result<StreamLoader<I, O>, OutOfMemory>
         ensures fresh { IfOk result (λ loader. IsFreshLoader loader.held.files loader.held.told.items loader.held.given.items
             loader.inlet.refused (has_given_all loader.inlet.whole.items loader.inlet.reader.state) loader.held.stopped) }
-        ensures unread { IfOk result (λ loader. (loader.inlet.input ≡ input) × (loader.inlet.reader.state ≡ Greeting [])
+        ensures unread { IfOk result (λ loader. (loader.input ≡ input) × (loader.inlet.reader.state ≡ Greeting [])
             × (loader.inlet.whole.items ≡ []) × (loader.inlet.refused ≡ None)) }
         ensures unsent { IfOk result (λ loader. (loader.outlet.out ≡ out)
             × (loader.outlet.second ≡ true) × (loader.outlet.greeted ≡ false)) }
         ensures reads { IfOk result (λ loader. IsReadStream (I.left input) [] [] loader.inlet.whole.items loader.inlet.reader.state
-            loader.inlet.refused (I.ended loader.inlet.input)
-            (before_rest (take loader.inlet.filled loader.inlet.room.items) (I.left loader.inlet.input))) }
+            loader.inlet.refused (I.ended loader.input)
+            (before_rest (take loader.inlet.filled loader.inlet.room.items) (I.left loader.input))) }
         ensures sends { IfOk result (λ loader. HasRequests (O.written out) (O.written loader.outlet.out) loader.outlet.second
             loader.outlet.greeted loader.held.told.items) }
     {
@@ -74,19 +75,20 @@ impl<I: Source + Drop, O: Sink + Drop> StreamLoader<I, O> {
     ) -> Result<StreamLoader<I, O>, OutOfMemory>
         ensures fresh { IfOk result (λ loader. IsFreshLoader loader.held.files loader.held.told.items loader.held.given.items
             loader.inlet.refused (has_given_all loader.inlet.whole.items loader.inlet.reader.state) loader.held.stopped) }
-        ensures unread { IfOk result (λ loader. (loader.inlet.input ≡ input) × (loader.inlet.reader.state ≡ Greeting [])
+        ensures unread { IfOk result (λ loader. (loader.input ≡ input) × (loader.inlet.reader.state ≡ Greeting [])
             × (loader.inlet.whole.items ≡ []) × (loader.inlet.refused ≡ None)) }
         ensures unsent { IfOk result (λ loader. (loader.outlet.out ≡ out)
             × (loader.outlet.second ≡ second) × (loader.outlet.greeted ≡ false)) }
         ensures reads { IfOk result (λ loader. IsReadStream (I.left input) [] [] loader.inlet.whole.items loader.inlet.reader.state
-            loader.inlet.refused (I.ended loader.inlet.input)
-            (before_rest (take loader.inlet.filled loader.inlet.room.items) (I.left loader.inlet.input))) }
+            loader.inlet.refused (I.ended loader.input)
+            (before_rest (take loader.inlet.filled loader.inlet.room.items) (I.left loader.input))) }
         ensures sends { IfOk result (λ loader. HasRequests (O.written out) (O.written loader.outlet.out) loader.outlet.second
             loader.outlet.greeted loader.held.told.items) }
     {
         Ok(StreamLoader {
             held: Held::new(alloc),
-            inlet: Inlet::new(alloc, input)?,
+            input,
+            inlet: PieceReader::new(alloc)?,
             outlet: Outlet {
                 out,
                 second,

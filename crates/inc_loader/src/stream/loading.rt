@@ -30,7 +30,7 @@ impl<I: Source + Drop, O: Sink + Drop> Loader for StreamLoader<I, O> {
     ghost idle = { λ _. 0 };
 
     // Those of its source and its sink.
-    ghost faults = { λ loader. I.faults loader.inlet.input + O.faults loader.outlet.out };
+    ghost faults = { λ loader. I.faults loader.input + O.faults loader.outlet.out };
 
     fn prepare(&mut self, files: &[LoaderFile]) -> LoaderTurn
         requires { All (λ (file : LoaderFile). file.size ≤ most_size) files.now }
@@ -41,13 +41,13 @@ impl<I: Source + Drop, O: Sink + Drop> Loader for StreamLoader<I, O> {
         ensures ended { StaysTrue (has_given_all self.old.inlet.whole.items self.old.inlet.reader.state)
             (has_given_all self.new.inlet.whole.items self.new.inlet.reader.state) }
         ensures stopped { self.new.held.stopped ≡ self.old.held.stopped }
-        ensures later { I.faults self.old.inlet.input + O.faults self.old.outlet.out
-            ≤ I.faults self.new.inlet.input + O.faults self.new.outlet.out }
-        ensures cause { TurnCause (I.faults self.old.inlet.input + O.faults self.old.outlet.out)
-            (I.faults self.new.inlet.input + O.faults self.new.outlet.out) result }
+        ensures later { I.faults self.old.input + O.faults self.old.outlet.out
+            ≤ I.faults self.new.input + O.faults self.new.outlet.out }
+        ensures cause { TurnCause (I.faults self.old.input + O.faults self.old.outlet.out)
+            (I.faults self.new.input + O.faults self.new.outlet.out) result }
 
         // It reads nothing and sends nothing.
-        ensures unread { self.new.inlet ≡ self.old.inlet }
+        ensures unread { (self.new.input ≡ self.old.input) × (self.new.inlet ≡ self.old.inlet) }
         ensures unsent { self.new.outlet ≡ self.old.outlet }
     {
         match self.held.prepare(files) {
@@ -65,14 +65,14 @@ impl<I: Source + Drop, O: Sink + Drop> Loader for StreamLoader<I, O> {
         ensures ended { StaysTrue (has_given_all self.old.inlet.whole.items self.old.inlet.reader.state)
             (has_given_all self.new.inlet.whole.items self.new.inlet.reader.state) }
         ensures stopped { self.new.held.stopped ≡ self.old.held.stopped }
-        ensures later { I.faults self.old.inlet.input + O.faults self.old.outlet.out
-            ≤ I.faults self.new.inlet.input + O.faults self.new.outlet.out }
-        ensures cause { TurnCause (I.faults self.old.inlet.input + O.faults self.old.outlet.out)
-            (I.faults self.new.inlet.input + O.faults self.new.outlet.out) result }
+        ensures later { I.faults self.old.input + O.faults self.old.outlet.out
+            ≤ I.faults self.new.input + O.faults self.new.outlet.out }
+        ensures cause { TurnCause (I.faults self.old.input + O.faults self.old.outlet.out)
+            (I.faults self.new.input + O.faults self.new.outlet.out) result }
 
         // It fails only where its sink does, and else the sink has the requests of all reads that were told.
         ensures sink { TurnCause (O.faults self.old.outlet.out) (O.faults self.new.outlet.out) result }
-        ensures unread { self.new.inlet ≡ self.old.inlet }
+        ensures unread { (self.new.input ≡ self.old.input) × (self.new.inlet ≡ self.old.inlet) }
         ensures version { self.new.outlet.second ≡ self.old.outlet.second }
         ensures sends { (had : Option (List ℕ)) → result ≢ turn.Failed
             → HasRequests had (O.written self.old.outlet.out) self.old.outlet.second self.old.outlet.greeted self.old.held.told.items
@@ -98,26 +98,26 @@ impl<I: Source + Drop, O: Sink + Drop> Loader for StreamLoader<I, O> {
         ensures ended { StaysTrue (has_given_all self.old.inlet.whole.items self.old.inlet.reader.state)
             (has_given_all self.new.inlet.whole.items self.new.inlet.reader.state) }
         ensures stopped { self.new.held.stopped ≡ self.old.held.stopped }
-        ensures later { I.faults self.old.inlet.input + O.faults self.old.outlet.out
-            ≤ I.faults self.new.inlet.input + O.faults self.new.outlet.out }
-        ensures cause { GivenCause (I.faults self.old.inlet.input + O.faults self.old.outlet.out)
-            (I.faults self.new.inlet.input + O.faults self.new.outlet.out) result }
+        ensures later { I.faults self.old.input + O.faults self.old.outlet.out
+            ≤ I.faults self.new.input + O.faults self.new.outlet.out }
+        ensures cause { GivenCause (I.faults self.old.input + O.faults self.old.outlet.out)
+            (I.faults self.new.input + O.faults self.new.outlet.out) result }
 
         // It fails only where its source does.
-        ensures source { GivenCause (I.faults self.old.inlet.input) (I.faults self.new.inlet.input) result }
+        ensures source { GivenCause (I.faults self.old.input) (I.faults self.new.input) result }
         ensures unsent { self.new.outlet ≡ self.old.outlet }
 
         // What it gave are the first whole pieces of what it read, and it is refused exactly where that has a fault.
         ensures front { (input : Option (List ℕ)) (read : List ℕ) (gave : List Piece)
             → IsReadStream input read gave self.old.inlet.whole.items self.old.inlet.reader.state self.old.inlet.refused
-            (I.ended self.old.inlet.input) (before_rest (take self.old.inlet.filled self.old.inlet.room.items) (I.left self.old.inlet.input))
+            (I.ended self.old.input) (before_rest (take self.old.inlet.filled self.old.inlet.room.items) (I.left self.old.input))
             → (more : List ℕ) × IsReadStream input (read ++ more) (gave ++ pieces_in result) self.new.inlet.whole.items self.new.inlet.reader.state
-            self.new.inlet.refused (I.ended self.new.inlet.input) (before_rest (take self.new.inlet.filled self.new.inlet.room.items) (I.left self.new.inlet.input)) }
+            self.new.inlet.refused (I.ended self.new.input) (before_rest (take self.new.inlet.filled self.new.inlet.room.items) (I.left self.new.input)) }
         ensures follows { FollowsStream result self.new.inlet.whole.items }
         ensures done { EndsInDone result (has_given_all self.old.inlet.whole.items self.old.inlet.reader.state)
             (has_given_all self.new.inlet.whole.items self.new.inlet.reader.state) }
     {
-        match self.inlet.read_on() {
+        match self.inlet.read_on(&mut self.input) {
             Ok(()) => {}
             Err(ReadStop::Failed) => return Given::Failed,
             Err(ReadStop::OutOfMemory) => return Given::OutOfMemory,
@@ -142,14 +142,14 @@ impl<I: Source + Drop, O: Sink + Drop> Loader for StreamLoader<I, O> {
         ensures refused { StaysRefused self.old.inlet.refused self.new.inlet.refused }
         ensures ended { StaysTrue (has_given_all self.old.inlet.whole.items self.old.inlet.reader.state)
             (has_given_all self.new.inlet.whole.items self.new.inlet.reader.state) }
-        ensures later { I.faults self.old.inlet.input + O.faults self.old.outlet.out
-            ≤ I.faults self.new.inlet.input + O.faults self.new.outlet.out }
-        ensures cause { TurnCause (I.faults self.old.inlet.input + O.faults self.old.outlet.out)
-            (I.faults self.new.inlet.input + O.faults self.new.outlet.out) result }
+        ensures later { I.faults self.old.input + O.faults self.old.outlet.out
+            ≤ I.faults self.new.input + O.faults self.new.outlet.out }
+        ensures cause { TurnCause (I.faults self.old.input + O.faults self.old.outlet.out)
+            (I.faults self.new.input + O.faults self.new.outlet.out) result }
 
         // It fails only where its sink does, and else the sink has the whole stream of requests.
         ensures sink { TurnCause (O.faults self.old.outlet.out) (O.faults self.new.outlet.out) result }
-        ensures unread { self.new.inlet ≡ self.old.inlet }
+        ensures unread { (self.new.input ≡ self.old.input) × (self.new.inlet ≡ self.old.inlet) }
         ensures version { self.new.outlet.second ≡ self.old.outlet.second }
         ensures ends { (had : Option (List ℕ)) → result ≡ turn.Fine
             → HasRequests had (O.written self.old.outlet.out) self.old.outlet.second self.old.outlet.greeted self.old.held.told.items

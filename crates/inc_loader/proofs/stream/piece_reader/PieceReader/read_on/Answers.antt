@@ -1,6 +1,6 @@
 use Rattle.std.proofs.Common.{◌++◌, ◌∙◌}
 use Rattle.inc_loader.proofs.ReadingLemmas.{read_joined}
-use Rattle.inc_loader.proofs.stream.inlet.Inlet.read_on.Goals as goal
+use Rattle.inc_loader.proofs.stream.piece_reader.PieceReader.read_on.Goals as goal
 
 pub loop-self-preserved : goal.loop-self-preserved
 loop-self-preserved g c = record {
