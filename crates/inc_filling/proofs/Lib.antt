@@ -1,0 +1,5 @@
+pub mod contents
+pub mod lemmas
+pub mod shown
+pub mod steps
+pub mod streams

@@ -1,0 +1,10 @@
+pub mod ClaimSteps
+pub mod GateSteps
+pub mod GroupSteps
+pub mod LoopSteps
+pub mod OpenSteps
+pub mod PieceSteps
+pub mod PlaceSteps
+pub mod PutLoop
+pub mod PutSteps
+pub mod SettleSteps

@@ -1,0 +1,9 @@
+pub mod GroupIn
+pub mod GroupStops
+pub mod Outcomes
+pub mod PieceCounts
+pub mod RoundSteps
+pub mod TakenPieces
+pub mod WaitingPieces
+pub mod WholeFill
+pub mod WholeInput

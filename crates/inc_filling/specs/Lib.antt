@@ -1,0 +1,11 @@
+pub mod Contents
+pub mod Fillable
+pub mod Filled
+pub mod Grouped
+pub mod Pieces
+pub mod Refusals
+pub mod Rounds
+pub mod Shown
+pub mod Stands
+pub mod Stops
+pub mod Streams
