@@ -1,4 +1,5 @@
 pub mod CheckLemmas
+pub mod filling
 pub mod GoodBlocks
 pub mod InputLemmas
 pub mod MakeLemmas

@@ -22,7 +22,7 @@ use Rattle.inc_words.specs.declared.stop.Stop.{Stop}
 -- ---- a shelf that stays as it is
 
 -- no moment is later than the present one
-not_later : (name : List ℕ) (moment : ℕ) (log : Log) (image : Option (List ℕ)) → MayHaveLeftOf name moment log image → moment ≤ length log
+pub not_later : (name : List ℕ) (moment : ℕ) (log : Log) (image : Option (List ℕ)) → MayHaveLeftOf name moment log image → moment ≤ length log
 not_later name moment [] image left = left.0
 not_later name moment (entry ∷ past) image (inl here) = here.0
 not_later name moment (entry ∷ past) image (inr there) = let before : moment ≤ length past = not_later name moment past image there in omega arith

@@ -5,10 +5,11 @@ use Rattle.inc_io.specs.Causes.{Rose}
 use Rattle.inc_io.specs.Contents.{Contents}
 use Rattle.inc_disk.specs.Log.{Log}
 use Rattle.inc_cmd.specs.Commands.{ShowsOf, VouchesOf, plain}
-use Rattle.inc_cmd.specs.Commands.Make.{AddsOnly, IsMade, LeavesNew, new_file}
+use Rattle.inc_cmd.specs.Commands.Fill.{EndsFull}
+use Rattle.inc_cmd.specs.Commands.Make.{AddsOnly, IsMade, LeavesNew, most_taken, new_file}
+use Rattle.inc_cmd.specs.Commands.FillMoments.{EndsSettled, ExtendsOnly, LeavesFilled}
 use Rattle.inc_words.specs.Endings.{Answer}
-use Rattle.inc_words.specs.Command.{Command, Make, Read, Check, Inspect, Misfit}
-use Rattle.inc_cmd.specs.declared.commands.FileCommand.TheVariants as file
+use Rattle.inc_words.specs.Command.{Command, Make, Fill, Over, Misfit}
 use Rattle.inc_words.specs.declared.outcome.CommandOutcome.{CommandOutcome}
 use Rattle.inc_words.specs.declared.stop.Stop.{Stop}
 use Rattle.inc_words.specs.declared.stop.Stop.TheVariants.{Fault, OutOfMemory}
@@ -54,12 +55,11 @@ IfLogs before after P = IfSome before (λ old. IfSome after (λ new. P old new))
 
 -- ---- the input
 
--- a make of a signed file reads it, and no other command does
+-- a make of a signed file and a fill read it, and no other command does
 abbrev pub reads_input : Command → Bool
 reads_input (Make name size id unsigned) = not unsigned
-reads_input (Read name index root unproved) = false
-reads_input (Check name root) = false
-reads_input (Inspect name) = false
+reads_input (Fill name) = true
+reads_input (Over name command) = false
 reads_input (Misfit position) = false
 
 -- what a command is given: nothing, where it reads nothing
@@ -78,9 +78,20 @@ EndsAsPlain command files left status before after now = IfTold command files le
 abbrev pub PrintsFront : Command → Option Contents → Option (List ℕ) → Option (List ℕ) → Option (List ℕ) → Type 0
 PrintsFront command files left before after = IfTold command files left (λ stored given. AppendsFront before after (plain command stored given).text)
 
+-- some front of what was to come was taken
+abbrev pub TakesSome : Option (List ℕ) → Option (List ℕ) → Type 0
+TakesSome before after = (count : ℕ) × (after ≡ option_map (drop count) before)
+
 -- at most so many bytes were taken
 abbrev pub TakesFront : ℕ → Option (List ℕ) → Option (List ℕ) → Type 0
 TakesFront most before after = (count : ℕ) × (count ≤ most) × (after ≡ option_map (drop count) before)
+
+-- A make takes no more than a blob may be and one byte, a fill some front of its stream, and no other command anything.
+abbrev pub TakesInput : Command → Option (List ℕ) → Option (List ℕ) → Type 0
+TakesInput (Make name size id unsigned) before after = TakesFront most_taken before after
+TakesInput (Fill name) before after = TakesSome before after
+TakesInput (Over name command) before after = after ≡ before
+TakesInput (Misfit position) before after = after ≡ before
 
 -- what is left of it, whether it has ended, and its count
 pub record KeepsInput (left_before left_now : Option (List ℕ)) (ended_before ended_now : Bool) (before now : ℕ) : Type 0 where
@@ -99,9 +110,8 @@ status_of (Err OutOfMemory) = 6
 abbrev pub WordsAreTold : Command → ℕ → Type 0
 WordsAreTold (Misfit position) status = (status ≡ 1) ⊎ (status ≡ 6)
 WordsAreTold (Make name size id unsigned) status = status ≢ 1
-WordsAreTold (Read name index root unproved) status = status ≢ 1
-WordsAreTold (Check name root) status = status ≢ 1
-WordsAreTold (Inspect name) status = status ≢ 1
+WordsAreTold (Fill name) status = status ≢ 1
+WordsAreTold (Over name command) status = status ≢ 1
 
 -- the shelf failed, or the input of a command that reads it
 abbrev pub HasFailed : Command → ℕ → ℕ → ℕ → ℕ → Type 0
@@ -128,49 +138,64 @@ pub record HasEitherCause {T : Type 0} (before now input_before input_now : ℕ)
 -- a command that only reads leaves it as it was
 abbrev pub KeepsShelf : {K : Type 0} → Command → K → K → Type 0
 KeepsShelf (Make name size id unsigned) before now = Unit {0}
-KeepsShelf (Read name index root unproved) before now = now ≡ before
-KeepsShelf (Check name root) before now = now ≡ before
-KeepsShelf (Inspect name) before now = now ≡ before
+KeepsShelf (Fill name) before now = Unit {0}
+KeepsShelf (Over name command) before now = now ≡ before
 KeepsShelf (Misfit position) before now = now ≡ before
 
 -- which files a run may change
 abbrev pub ChangesOnly : Command → Log → Log → Type 0
 ChangesOnly (Make name size id unsigned) before after = AddsOnly name before after
-ChangesOnly (Read name index root unproved) before after = after ≡ before
-ChangesOnly (Check name root) before after = after ≡ before
-ChangesOnly (Inspect name) before after = after ≡ before
+ChangesOnly (Fill name) before after = ExtendsOnly name before after
+ChangesOnly (Over name command) before after = after ≡ before
 ChangesOnly (Misfit position) before after = after ≡ before
 
--- what a crash at any moment of the run leaves
-abbrev pub LeavesFiles : Command → List ℕ → Log → Log → Type 0
-LeavesFiles (Make name size id unsigned) given before after = LeavesNew name (new_file size id unsigned given) before after
-LeavesFiles (Read name index root unproved) given before after = after ≡ before
-LeavesFiles (Check name root) given before after = after ≡ before
-LeavesFiles (Inspect name) given before after = after ≡ before
+-- what is left where the input failed, and where the command isn't done: a fill's pieces before that are in, by the moments below
+abbrev pub KeepsUndone : {K : Type 0} → Command → K → K → Type 0
+KeepsUndone (Make name size id unsigned) before now = now ≡ before
+KeepsUndone (Fill name) before now = Unit {0}
+KeepsUndone (Over name command) before now = now ≡ before
+KeepsUndone (Misfit position) before now = now ≡ before
+
+-- What a crash at any moment of the run leaves. Of a make it hangs on what the input gives; of a fill only which pieces were put does.
+abbrev pub LeavesFiles : Command → Option (List ℕ) → Log → Log → Type 0
+LeavesFiles (Make name size id unsigned) given before after = IfSome given (λ given. LeavesNew name (new_file size id unsigned given) before after)
+LeavesFiles (Fill name) given before after = LeavesFilled name given before after
+LeavesFiles (Over name command) given before after = after ≡ before
 LeavesFiles (Misfit position) given before after = after ≡ before
+
+-- what a crash leaves of a run that wasn't stopped from outside: of a fill all that is open
+abbrev pub Settles : Command → Option (List ℕ) → Log → Log → Type 0
+Settles (Make name size id unsigned) given before after = Unit {0}
+Settles (Fill name) given before after = EndsSettled name given before after
+Settles (Over name command) given before after = after ≡ before
+Settles (Misfit position) given before after = after ≡ before
+
+-- what stands where a history is full: the file with at least so many pieces of the stream. No command but a fill has one
+abbrev pub HasFullHistory : Command → Option Contents → Option (List ℕ) → Option Contents → Type 0
+HasFullHistory (Make name size id unsigned) files given now = ⊥
+HasFullHistory (Fill name) files given now = IfSome files (λ files. IfSome given (λ given. EndsFull name files given now))
+HasFullHistory (Over name command) files given now = ⊥
+HasFullHistory (Misfit position) files given now = ⊥
 
 -- what stands once status 0 is told
 abbrev pub Made : Command → List ℕ → Log → Type 0
 Made (Make name size id unsigned) given after = IsMade name (new_file size id unsigned given) after
-Made (Read name index root unproved) given after = Unit {0}
-Made (Check name root) given after = Unit {0}
-Made (Inspect name) given after = Unit {0}
+Made (Fill name) given after = Unit {0}
+Made (Over name command) given after = Unit {0}
 Made (Misfit position) given after = ⊥
 
 -- ---- what status 0 means
 
--- over the files: a make and an inspection show no block
+-- over the files: a make and a fill show no block
 abbrev pub Shows : Command → Contents → List ℕ → Type 0
 Shows (Make name size id unsigned) files text = Unit {0}
-Shows (Read name index root unproved) files text = IsSomeAnd (get files name) (λ bytes. ShowsOf (file.Read index root unproved) bytes text)
-Shows (Check name root) files text = IsSomeAnd (get files name) (λ bytes. ShowsOf (file.Check root) bytes text)
-Shows (Inspect name) files text = IsSomeAnd (get files name) (λ bytes. ShowsOf file.Inspect bytes text)
+Shows (Fill name) files text = Unit {0}
+Shows (Over name command) files text = IsSomeAnd (get files name) (λ bytes. ShowsOf command bytes text)
 Shows (Misfit position) files text = ⊥
 
 -- whatever the shelf tells
 abbrev pub Vouches : Command → List ℕ → Type 0
 Vouches (Make name size id unsigned) text = Unit {0}
-Vouches (Read name index root unproved) text = VouchesOf (file.Read index root unproved) text
-Vouches (Check name root) text = VouchesOf (file.Check root) text
-Vouches (Inspect name) text = VouchesOf file.Inspect text
+Vouches (Fill name) text = Unit {0}
+Vouches (Over name command) text = VouchesOf command text
 Vouches (Misfit position) text = ⊥

@@ -8,32 +8,21 @@ ghost use Rattle.inc_words.specs.Endings.{EndsAs};
 ghost use Rattle.inc_words.specs.declared.stop.Stop.TheVariants.{Fault as stop_fault};
 
 mod check;
+mod fill;
 mod inspect;
 mod make;
+mod ranges;
 mod read;
 
 use check::check_file;
+pub use fill::fill_name;
 use inc_io::{Backing, Name, ReadShelf};
-use inc_tree::Digest32;
-use inc_words::{CommandOutcome, Stop, missing, refuse};
+use inc_words::{CommandOutcome, FileCommand, Stop, missing, refuse};
 use inspect::inspect_file;
-pub use make::{make_signed, make_unsigned};
+pub use make::make_new;
+use ranges::list_ranges;
 use read::read_block;
 use std::alloc::Global;
-
-/// A command that only reads, and one file alone.
-#[derive(Clone, Copy)]
-pub enum FileCommand {
-    Read {
-        index: u32,
-        root: Option<Digest32>,
-        unproved: bool,
-    },
-    Check {
-        root: Option<Digest32>,
-    },
-    Inspect,
-}
 
 /// Does a command over the named file.
 pub fn over_name<S: ReadShelf>(
@@ -83,5 +72,8 @@ fn over_file<B: Backing>(
         } => read_block(alloc, name, file, index, root, unproved),
         FileCommand::Check { root } => check_file(alloc, name, file, root),
         FileCommand::Inspect => inspect_file(alloc, name, file),
+        FileCommand::Ranges { start, end, room } => {
+            list_ranges(alloc, name, file, start, end, room)
+        }
     }
 }

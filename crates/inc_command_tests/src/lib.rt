@@ -16,7 +16,11 @@ mod words;
 #[cfg(test)]
 mod checking;
 #[cfg(test)]
+mod filling;
+#[cfg(test)]
 mod making;
+#[cfg(test)]
+mod ranging;
 #[cfg(test)]
 mod reading;
 #[cfg(test)]

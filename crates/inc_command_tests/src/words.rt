@@ -69,6 +69,14 @@ const OF_A_COMMAND: &[Misfit] = &[
         words: "inspect two --root 00",
         at: 2,
     },
+    Misfit {
+        words: "fill",
+        at: 1,
+    },
+    Misfit {
+        words: "fill a/b",
+        at: 1,
+    },
 ];
 
 #[test]
@@ -120,7 +128,55 @@ fn words_of_a_make_are_named_by_place(rt: HostRuntime) {
     assert!(rt; are_told(rt.alloc(), OF_A_MAKE));
 }
 
+const OF_RANGES: &[Misfit] = &[
+    Misfit {
+        words: "ranges",
+        at: 1,
+    },
+    Misfit {
+        words: "ranges a/b 0 0 0",
+        at: 1,
+    },
+    Misfit {
+        words: "ranges f",
+        at: 2,
+    },
+    Misfit {
+        words: "ranges f x",
+        at: 2,
+    },
+    Misfit {
+        words: "ranges f 0",
+        at: 3,
+    },
+    Misfit {
+        words: "ranges f 0 4294967296 0",
+        at: 3,
+    },
+    Misfit {
+        words: "ranges f 0 1",
+        at: 4,
+    },
+    Misfit {
+        words: "ranges f 0 1 -1",
+        at: 4,
+    },
+    Misfit {
+        words: "ranges f 0 1 2 3",
+        at: 5,
+    },
+];
+
+#[test]
+fn words_of_ranges_are_named_by_place(rt: HostRuntime) {
+    assert!(rt; are_told(rt.alloc(), OF_RANGES));
+}
+
 const BEHIND_A_NAME: &[Misfit] = &[
+    Misfit {
+        words: "fill one two",
+        at: 2,
+    },
     Misfit {
         words: "read two 0 --rood 00",
         at: 3,

@@ -1,10 +1,10 @@
 -- What a program's words name: a command, or the position of the first word that fits none.
-use Rattle.std.specs.Prelude.{ℕ, Bool, List, Option}
+use Rattle.std.specs.Prelude.{ℕ, Bool, List}
+use Rattle.inc_words.specs.declared.words.FileCommand.{FileCommand}
 
--- of a make whether the file is unsigned, of a read whether the block is taken unproved; and words that fit no command
+-- of a make whether the file is unsigned; a command over one file that only reads; and words that fit no command
 pub data Command : Type 0 where
   Make : List ℕ → ℕ → List ℕ → Bool → Command
-  Read : List ℕ → ℕ → Option (List ℕ) → Bool → Command
-  Check : List ℕ → Option (List ℕ) → Command
-  Inspect : List ℕ → Command
+  Fill : List ℕ → Command
+  Over : List ℕ → FileCommand → Command
   Misfit : ℕ → Command

@@ -3,16 +3,16 @@
 --     0   the command is done, and every read that it made answered bytes
 --     1   the words fit no command
 --     2   a stream is refused
---     3   the named file is missing, refused or there already
+--     3   the named file is missing, refused or there already, or it refuses a piece of a fill
 --     4   a block can't be shown, or a check found one
 --     5   the shelf, a file, the input or the output failed
 --     6   out of memory
 --     7   a history is full
 --
--- No command of today ends with 2 or 7.
+-- Only a fill ends with 2 or 7, and at 7 it prints nothing.
 use Rattle.std.specs.Prelude.{◌≡◌, ℕ, List, [], Option, Some, None, Result, Ok, Err}
 use Rattle.inc_io.specs.Contents.{Contents}
-use Rattle.inc_words.specs.Texts.{block_line, refused_line, words_line}
+use Rattle.inc_words.specs.Texts.{block_line, refused_line, stream_line, words_line}
 use Rattle.inc_words.specs.declared.outcome.CommandOutcome.{CommandOutcome}
 use Rattle.inc_words.specs.declared.stop.Stop.{Stop}
 use Rattle.inc_words.specs.declared.stop.Stop.TheVariants.{Fault, OutOfMemory}
@@ -26,6 +26,10 @@ done text = record { status = 0; text = text }
 
 abbrev pub misfit : ℕ → Ending
 misfit position = record { status = 1; text = words_line position }
+
+-- by this word, at this place of the stream
+abbrev pub stream_refused : List ℕ → ℕ → Ending
+stream_refused word place = record { status = 2; text = stream_line word place }
 
 abbrev pub refused : List ℕ → List ℕ → Ending
 refused name word = record { status = 3; text = refused_line name word }

@@ -2,16 +2,19 @@
 use Rattle.std.specs.Prelude.{◌≡◌, ℕ, List, Option, Result, Ok, Err}
 use Rattle.inc_words.specs.Command as words
 use Rattle.inc_words.specs.declared.words.Command.{Command}
-use Rattle.inc_words.specs.declared.words.Command.TheVariants.{Make, Read, Check, Inspect}
+use Rattle.inc_words.specs.declared.words.Command.TheVariants.{Make, Fill, Over}
 use Rattle.inc_words.specs.declared.words.WordsFault.{WordsFault}
 use Rattle.inc_words.specs.declared.words.WordsFault.TheVariants.{Bad, OutOfMemory}
 
+-- the command that was read
+abbrev pub named : Command → words.Command
+named (Make name size id unsigned) = words.Make name size id unsigned
+named (Fill name) = words.Fill name
+named (Over name command) = words.Over name command
+
 -- the result is this command, or want of memory
 abbrev pub Reads : words.Command → Result Command WordsFault → Type 0
-Reads command (Ok (Make name size id unsigned)) = command ≡ words.Make name size id unsigned
-Reads command (Ok (Read name index root unproved)) = command ≡ words.Read name index root unproved
-Reads command (Ok (Check name root)) = command ≡ words.Check name root
-Reads command (Ok (Inspect name)) = command ≡ words.Inspect name
+Reads command (Ok read) = command ≡ named read
 Reads command (Err (Bad at)) = command ≡ words.Misfit at
 Reads command (Err OutOfMemory) = Unit {0}
 

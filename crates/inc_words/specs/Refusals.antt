@@ -32,6 +32,15 @@ root_differs = codes "root-differs"
 unfoldable pub unsigned : List ℕ
 unsigned = codes "unsigned"
 
+unfoldable pub too_long : List ℕ
+too_long = codes "too-long"
+
+unfoldable pub unknown_file : List ℕ
+unknown_file = codes "unknown-file"
+
+unfoldable pub bad_range : List ℕ
+bad_range = codes "bad-range"
+
 -- ---- words of a file
 
 unfoldable pub header_word : HeaderFault → List ℕ

@@ -7,6 +7,10 @@ use Rattle.hex.specs.Hex.{encode_lower}
 unfoldable pub words_line : ℕ → List ℕ
 words_line position = codes "words " ++ decimal position ++ 10 ∷ []
 
+-- `stream WORD at P`
+unfoldable pub stream_line : List ℕ → ℕ → List ℕ
+stream_line word place = codes "stream " ++ word ++ codes " at " ++ decimal place ++ 10 ∷ []
+
 -- `refused NAME WORD`
 unfoldable pub refused_line : List ℕ → List ℕ → List ℕ
 refused_line name word = codes "refused " ++ name ++ 32 ∷ word ++ 10 ∷ []
@@ -38,3 +42,11 @@ made_counts data_count hash_count len = codes " data " ++ decimal data_count ++ 
 -- `made NAME data N hash M length L`
 unfoldable pub made_line : List ℕ → ℕ → ℕ → ℕ → List ℕ
 made_line name data_count hash_count len = codes "made " ++ name ++ made_counts data_count hash_count len ++ 10 ∷ []
+
+-- ` written W present P`
+unfoldable pub filled_counts : ℕ → ℕ → List ℕ
+filled_counts written present = codes " written " ++ decimal written ++ codes " present " ++ decimal present
+
+-- `filled NAME written W present P`
+unfoldable pub fill_line : List ℕ → ℕ → ℕ → List ℕ
+fill_line name written present = codes "filled " ++ name ++ filled_counts written present ++ 10 ∷ []

@@ -15,12 +15,15 @@ mod stop;
 // The words that go out.
 mod texts;
 
-pub use outcome::{CommandOutcome, refuse, refuse_block, refuse_layout};
+pub use outcome::{CommandOutcome, refuse, refuse_block, refuse_layout, refuse_stream};
 pub use status::Status;
 pub use stop::Stop;
-pub use texts::lines::{checked_line, made_line, part_of, words_line};
-pub use texts::refusals::{exists, missing, root_differs, signature_word, too_large, unsigned};
-pub use words::{Command, WordsFault, parse_words};
+pub use texts::lines::{checked_line, fill_line, made_line, part_of, words_line};
+pub use texts::refusals::{
+    bad_range, exists, missing, root_differs, signature_word, too_large, too_long, unknown_file,
+    unsigned,
+};
+pub use words::{Command, FileCommand, WordsFault, parse_words};
 
 /// Want of memory: the one answer that no clause ties to a cause.
 pub type OutOfMemory = std::alloc::AllocError;

@@ -2,13 +2,13 @@ ghost use Rattle.std.specs.Prelude.{◌≡◌, ◌≢◌, ◌⊎◌, IfOk, IfErr
 ghost use Rattle.inc_layout.specs.opening.Faults.{IsOwnFault};
 ghost use Rattle.inc_layout.specs.declared.fault.LayoutFault.TheVariants.{ReadFault as layout_read_fault};
 ghost use Rattle.inc_layout.specs.declared.reading.static_error.StaticError.TheVariants.{ReadFault as block_read_fault};
-ghost use Rattle.inc_words.specs.Endings.{EndsAs, not_shown_by, refused, refused_by};
+ghost use Rattle.inc_words.specs.Endings.{EndsAs, not_shown_by, refused, refused_by, stream_refused};
 ghost use Rattle.inc_words.specs.Refusals.{layout_word, reason_of};
 ghost use Rattle.inc_words.specs.declared.stop.Stop.TheVariants.{Fault as stop_fault, OutOfMemory as stop_out_of_memory};
 
 use crate::Status;
 use crate::stop::Stop;
-use crate::texts::lines::{block_line, refused_line};
+use crate::texts::lines::{block_line, refused_line, stream_line};
 use crate::texts::reasons::reason_of;
 use crate::texts::refusals::layout_word;
 use inc_io::Name;
@@ -31,6 +31,18 @@ pub fn refuse(alloc: Global, name: &Name, word: &[u8]) -> Result<CommandOutcome,
     Ok(CommandOutcome {
         status: Status::REFUSED,
         text: refused_line(alloc, name.as_slice(), word)?,
+    })
+}
+
+/// The outcome of a stream that is refused by this word, at this place of it.
+pub fn refuse_stream(alloc: Global, word: &[u8], place: u64) -> Result<CommandOutcome, Stop>
+    ensures outcome { IfOk result (EndsAs (stream_refused word.now place)) }
+    ensures refused { IfOk result (λ outcome. outcome.status.0 ≡ 2) }
+    ensures memory { IfErr result (λ stop. stop ≡ stop_out_of_memory) }
+{
+    Ok(CommandOutcome {
+        status: Status::STREAM_REFUSED,
+        text: stream_line(alloc, word, place)?,
     })
 }
 

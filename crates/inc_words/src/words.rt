@@ -5,17 +5,21 @@ ghost use Rattle.inc_words.specs.Words.{command_of};
 ghost use Rattle.inc_words.specs.declared.words.WordsFault.TheVariants.{OutOfMemory as out_of_memory};
 
 mod check;
+mod fill;
 mod inspect;
 mod make;
+mod ranges;
 mod read;
 mod root;
 
 use check::{is_check, parse_check};
+use fill::{is_fill, parse_fill};
 use inc_bytes::Id;
 use inc_io::Name;
 use inc_tree::Digest32;
 use inspect::{is_inspect, parse_inspect};
 use make::{is_make, parse_make};
+use ranges::{is_ranges, parse_ranges};
 use read::{is_read, parse_read};
 use std::alloc::{AllocError, Global};
 
@@ -29,21 +33,37 @@ pub enum Command {
         id: Id,
         unsigned: bool,
     },
+    /// Fill the pieces of the stream in the input into the file.
+    Fill {
+        name: Name,
+    },
+    /// Read the named file, and write nothing.
+    Over {
+        name: Name,
+        command: FileCommand,
+    },
+}
+
+/// A command that only reads, and one file alone.
+#[derive(Clone, Copy)]
+pub enum FileCommand {
     /// Print a data block, where the file has this root. Of a file without a signature a block is printed only where it is taken unproved.
     Read {
-        name: Name,
         index: u32,
         root: Option<Digest32>,
         unproved: bool,
     },
     /// Check each data block, where the file has this root.
     Check {
-        name: Name,
         root: Option<Digest32>,
     },
     /// Print what the file says of itself.
-    Inspect {
-        name: Name,
+    Inspect,
+    /// Print which blocks between two indices are there: the first so many ranges of them, and where the next one begins.
+    Ranges {
+        start: u32,
+        end: u32,
+        room: u32,
     },
 }
 
@@ -72,12 +92,16 @@ pub fn parse_words(alloc: Global, words: &[String]) -> Result<Command, WordsFaul
         [word, rest @ ..] => {
             if is_make(word.as_str()) {
                 parse_make(alloc, rest)
+            } else if is_fill(word.as_str()) {
+                parse_fill(alloc, rest)
             } else if is_read(word.as_str()) {
                 parse_read(alloc, rest)
             } else if is_check(word.as_str()) {
                 parse_check(alloc, rest)
             } else if is_inspect(word.as_str()) {
                 parse_inspect(alloc, rest)
+            } else if is_ranges(word.as_str()) {
+                parse_ranges(alloc, rest)
             } else {
                 Err(WordsFault::Bad { at: 0 })
             }

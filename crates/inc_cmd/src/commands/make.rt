@@ -1,5 +1,5 @@
 // A new file.
-ghost use Rattle.std.specs.Prelude.{◌≡◌, ◌≢◌, ◌<◌, [], false, length, IfSome, IfOk, OnOk, Err};
+ghost use Rattle.std.specs.Prelude.{◌≡◌, ◌≢◌, ◌<◌, [], false, length, not, IfSome, IfOk, OnOk, Err};
 ghost use Rattle.std.specs.FinMap.{get};
 ghost use Rattle.inc_io.specs.Causes.{HasCause, HasCauseAt};
 ghost use Rattle.inc_io.specs.Outside.{NoneOut};
@@ -8,9 +8,10 @@ ghost use Rattle.inc_disk.specs.Laws.{LeavesOnly};
 ghost use Rattle.inc_tree.specs.shape.Geometry.{data_blocks, flat_of, hash_blocks, tree_of};
 ghost use Rattle.inc_layout.specs.Fresh.{IsFreshImage, fresh_of, image_of, unsigned_of};
 ghost use Rattle.inc_recover.specs.Making.{MayBeLeft};
-ghost use Rattle.inc_cmd.specs.Commands.Make.{AddsOnly, IsMade, LeavesNew, blob_of, made, make_answer, most_taken, sized};
+ghost use Rattle.inc_cmd.specs.Commands.Make.{AddsOnly, IsMade, LeavesNew, blob_of, made, make_answer, most_taken, new_file, sized};
 ghost use Rattle.inc_words.specs.Endings.{AnswersAs, EndsAs};
-ghost use Rattle.inc_cmd.specs.Runs.{HasEitherCause, IfLogs, TakesFront, status_of};
+ghost use Rattle.inc_cmd.specs.Runs.{HasCauseIn, HasEitherCause, IfLogs, IfTold, KeepsInput, TakesFront, given_to, status_of};
+ghost use Rattle.inc_words.specs.Command.{Make};
 ghost use Rattle.inc_words.specs.Texts.{made_line};
 ghost use Rattle.inc_words.specs.declared.stop.Stop.TheVariants.{Fault as stop_fault, OutOfMemory as stop_out_of_memory};
 
@@ -27,8 +28,42 @@ use inc_words::{
 };
 use std::alloc::Global;
 
+/// Makes a new file, without a signature or from the signature blob in the input.
+pub fn make_new<S: Shelf, I: Source>(
+    alloc: Global,
+    name: &Name,
+    size: u64,
+    id: Id,
+    unsigned: bool,
+    shelf: &mut S,
+    input: &mut I,
+) -> Result<CommandOutcome, Stop>
+    requires { NoneOut (S.out shelf.old) }
+    ensures answer { IfTold (Make name.now size id unsigned) (S.contents (S.kept shelf.old)) (I.left input.old) (λ files given.
+        IfOk result (λ outcome. AnswersAs (make_answer name.now size id unsigned files given) outcome (S.contents (S.kept shelf.new)))) }
+    ensures others { IfLogs (S.log (S.kept shelf.old)) (S.log (S.kept shelf.new)) (AddsOnly name.now) }
+    ensures moments { IfSome (given_to (Make name.now size id unsigned) (I.left input.old)) (λ given.
+        IfLogs (S.log (S.kept shelf.old)) (S.log (S.kept shelf.new)) (LeavesNew name.now (new_file size id unsigned given))) }
+    ensures made { status_of result ≡ 0 → IfSome (given_to (Make name.now size id unsigned) (I.left input.old)) (λ given.
+        IfSome (S.log (S.kept shelf.new)) (IsMade name.now (new_file size id unsigned given))) }
+    ensures input_kept { not unsigned ≡ false → KeepsInput (I.left input.old) (I.left input.new) (I.ended input.old) (I.ended input.new) (I.faults input.old) (I.faults input.new) }
+    ensures took { TakesFront most_taken (I.left input.old) (I.left input.new) }
+    ensures early { I.faults input.old < I.faults input.new → S.kept shelf.new ≡ S.kept shelf.old }
+    ensures unless_done { status_of result ≢ 0 → status_of result ≢ 5 → S.kept shelf.new ≡ S.kept shelf.old }
+    ensures words { status_of result ≢ 1 }
+    ensures statuses { IfOk result (λ outcome. outcome.status.0 < 5) }
+    ensures cause { HasCauseIn (Make name.now size id unsigned) (S.faults shelf.old) (S.faults shelf.new) (I.faults input.old) (I.faults input.new) result }
+    ensures back { NoneOut (S.out shelf.new) }
+{
+    if unsigned {
+        make_unsigned(alloc, name, size, id, shelf)
+    } else {
+        make_signed(alloc, name, size, id, shelf, input)
+    }
+}
+
 /// Makes a new file from the signature blob in the input, which is read before anything is done on the shelf.
-pub fn make_signed<S: Shelf, I: Source>(
+fn make_signed<S: Shelf, I: Source>(
     alloc: Global,
     name: &Name,
     size: u64,
@@ -65,7 +100,7 @@ pub fn make_signed<S: Shelf, I: Source>(
 }
 
 /// Makes a new file without a signature. It reads no input.
-pub fn make_unsigned<S: Shelf>(
+fn make_unsigned<S: Shelf>(
     alloc: Global,
     name: &Name,
     size: u64,

@@ -2,8 +2,9 @@
 use Rattle.std.specs.Prelude.{ℕ, ◌-◌, ◌^◌, true, false, if◌then◌else◌, List, [], ◌∷◌, Option, Some, None, Result, Ok, Err, codes, bytes_eq}
 use Rattle.inc_bytes.specs.Decimals.{numeral_of}
 use Rattle.inc_io.specs.Names.{is_name}
-use Rattle.inc_words.specs.Command.{Command, Misfit, Read}
+use Rattle.inc_words.specs.Command.{Command, Misfit, Over}
 use Rattle.inc_words.specs.Words.Root.{root_value, root_word}
+use Rattle.inc_words.specs.declared.words.FileCommand.TheVariants.{Read}
 
 unfoldable pub read_word : List ℕ
 read_word = codes "read"
@@ -12,15 +13,15 @@ unfoldable pub unproved_word : List ℕ
 unproved_word = codes "--unproved"
 
 abbrev pub read_last : List ℕ → ℕ → List (List ℕ) → Command
-read_last name index [] = Read name index None true
+read_last name index [] = Over name (Read index None true)
 read_last name index (word ∷ words) = Misfit 4
 
 abbrev pub read_with : List ℕ → ℕ → Result (Option (List ℕ)) ℕ → Command
-read_with name index (Ok root) = Read name index root false
+read_with name index (Ok root) = Over name (Read index root false)
 read_with name index (Err position) = Misfit position
 
 abbrev pub read_after : List ℕ → ℕ → List (List ℕ) → Command
-read_after name index [] = Read name index None false
+read_after name index [] = Over name (Read index None false)
 read_after name index (word ∷ words) =
     if bytes_eq word root_word then read_with name index (root_value 4 words)
     else if bytes_eq word unproved_word then read_last name index words

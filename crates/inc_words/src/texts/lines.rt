@@ -1,5 +1,5 @@
 ghost use Rattle.std.specs.Prelude.{◌≡◌, IfOk};
-ghost use Rattle.inc_words.specs.Texts.{block_line, checked_line, corrupt_reason, made_counts, made_line, part_of, path_absent_reason, refused_line, words_line};
+ghost use Rattle.inc_words.specs.Texts.{block_line, checked_line, corrupt_reason, filled_counts, fill_line, made_counts, made_line, part_of, path_absent_reason, refused_line, stream_line, words_line};
 
 use crate::OutOfMemory;
 use inc_tree::Digest32;
@@ -11,6 +11,18 @@ pub fn words_line(alloc: Global, position: usize) -> Result<Vec<u8>, OutOfMemory
     ensures value { IfOk result (λ line. line.items ≡ words_line position) }
 {
     Ok(format!(in alloc; "words {position}\n")?.into_bytes())
+}
+
+/// `stream WORD at P`
+#[tactic(auto, unfolding(crate::specs::Texts::stream_line))]
+pub fn stream_line(alloc: Global, word: &[u8], place: u64) -> Result<Vec<u8>, OutOfMemory>
+    ensures value { IfOk result (λ line. line.items ≡ stream_line word.now place) }
+{
+    let mut line = b"stream ".to_vec(alloc)?;
+    line.extend_from_slice(word)?;
+    line.extend_from_slice(format!(in alloc; " at {place}")?.as_bytes())?;
+    line.extend_from_slice(b"\n")?;
+    Ok(line)
 }
 
 /// `refused NAME WORD`
@@ -113,5 +125,32 @@ fn made_counts(
 {
     let mut counts = format!(in alloc; " data {data_count} hash {hash_count}")?.into_bytes();
     counts.extend_from_slice(format!(in alloc; " length {len}")?.as_bytes())?;
+    Ok(counts)
+}
+
+/// `filled NAME written W present P`
+#[tactic(auto, unfolding(crate::specs::Texts::fill_line))]
+pub fn fill_line(
+    alloc: Global,
+    name: &[u8],
+    written: u64,
+    present: u64,
+) -> Result<Vec<u8>, OutOfMemory>
+    ensures value { IfOk result (λ line. line.items ≡ fill_line name.now written present) }
+{
+    let mut line = b"filled ".to_vec(alloc)?;
+    line.extend_from_slice(name)?;
+    line.extend_from_slice(filled_counts(alloc, written, present)?.as_slice())?;
+    line.extend_from_slice(b"\n")?;
+    Ok(line)
+}
+
+/// ` written W present P`
+#[tactic(auto, unfolding(crate::specs::Texts::filled_counts))]
+fn filled_counts(alloc: Global, written: u64, present: u64) -> Result<Vec<u8>, OutOfMemory>
+    ensures value { IfOk result (λ counts. counts.items ≡ filled_counts written present) }
+{
+    let mut counts = format!(in alloc; " written {written}")?.into_bytes();
+    counts.extend_from_slice(format!(in alloc; " present {present}")?.as_bytes())?;
     Ok(counts)
 }

@@ -2,7 +2,7 @@
 ghost use Rattle.std.specs.Prelude.{◌≡◌, ◌≢◌, IfOk, IfErr, Ok, Err};
 ghost use Rattle.inc_layout.specs.opening.Faults.{IsOwnFault};
 ghost use Rattle.inc_layout.specs.declared.fault.LayoutFault.TheVariants.{ReadFault as layout_read_fault};
-ghost use Rattle.inc_words.specs.Refusals.{chain_word, exists, header_word, layout_word, missing, root_differs, signature_word, too_large, unsigned};
+ghost use Rattle.inc_words.specs.Refusals.{bad_range, chain_word, exists, header_word, layout_word, missing, root_differs, signature_word, too_large, too_long, unknown_file, unsigned};
 ghost use Rattle.inc_words.specs.declared.stop.Stop.TheVariants.{Fault as stop_fault};
 
 use crate::stop::Stop;
@@ -44,6 +44,28 @@ pub fn unsigned() -> &'static [u8]
     ensures value { result.now ≡ unsigned }
 {
     b"unsigned"
+}
+
+#[tactic(auto, unfolding(crate::specs::Refusals::too_long))]
+pub fn too_long() -> &'static [u8]
+    ensures value { result.now ≡ too_long }
+{
+    b"too-long"
+}
+
+/// Of a stream's piece that is another file's.
+#[tactic(auto, unfolding(crate::specs::Refusals::unknown_file))]
+pub fn unknown_file() -> &'static [u8]
+    ensures value { result.now ≡ unknown_file }
+{
+    b"unknown-file"
+}
+
+#[tactic(auto, unfolding(crate::specs::Refusals::bad_range))]
+pub fn bad_range() -> &'static [u8]
+    ensures value { result.now ≡ bad_range }
+{
+    b"bad-range"
 }
 
 /// The word of a file's refusal. What failed outside of the file stops the command.

@@ -5,7 +5,7 @@ ghost use Rattle.inc_words.specs.Parsing.{Reads};
 ghost use Rattle.inc_words.specs.Words.Check.{check_name, check_word};
 
 use super::root::parse_root;
-use super::{Command, WordsFault};
+use super::{Command, FileCommand, WordsFault};
 use inc_io::Name;
 use std::alloc::Global;
 
@@ -24,7 +24,8 @@ pub fn parse_check(alloc: Global, words: &[String]) -> Result<Command, WordsFaul
         [word, rest @ ..] => match Name::of(alloc, word.as_bytes())? {
             Some(name) => {
                 let root = parse_root(rest, 2)?;
-                Ok(Command::Check { name, root })
+                let command = FileCommand::Check { root };
+                Ok(Command::Over { name, command })
             }
             None => Err(WordsFault::Bad { at: 1 }),
         },

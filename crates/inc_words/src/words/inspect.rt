@@ -4,7 +4,7 @@ ghost use Rattle.std.specs.String.{string_bytes};
 ghost use Rattle.inc_words.specs.Parsing.{Reads};
 ghost use Rattle.inc_words.specs.Words.Inspect.{inspect_end, inspect_name, inspect_word};
 
-use super::{Command, WordsFault};
+use super::{Command, FileCommand, WordsFault};
 use inc_io::Name;
 use std::alloc::Global;
 
@@ -31,7 +31,10 @@ fn parse_inspect_end(name: Name, words: &[String]) -> Result<Command, WordsFault
     ensures value { Reads (inspect_end name (map (λ word. string_bytes word) words.now)) result }
 {
     match words {
-        [] => Ok(Command::Inspect { name }),
+        [] => Ok(Command::Over {
+            name,
+            command: FileCommand::Inspect,
+        }),
         [_, ..] => Err(WordsFault::Bad { at: 2 }),
     }
 }
