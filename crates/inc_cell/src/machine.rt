@@ -37,6 +37,8 @@ impl<D: Disk> Machine for FileCell<D> {
     ghost steps = { CellMoves };
 
     fn step(&mut self, who: u32, event: CellEvent) -> Answer {
+        // A cell's type keeps its history legal, and its seats are told so.
+        let _entries = self.history();
         match event {
             CellEvent::Put {
                 window,

@@ -6,6 +6,8 @@ use Rattle.inc_model.specs.declared.words.event.Event.TheVariants.{Ask, Poll, Ca
 use Rattle.inc_cell.specs.events.Answers.{CellSteps}
 use Rattle.inc_cell.specs.device.Handed.{MayHand}
 use Rattle.inc_cell.specs.device.Puts.{digest_for}
+use Rattle.inc_model.specs.relation.Step.{IsLegal}
+use Rattle.inc_cell.specs.laws.Laws.{BeginsAs}
 use Rattle.inc_cell.specs.seen.Seen.{Seen, tells}
 use Rattle.inc_cell.specs.declared.words.answer.Answer.{Answer}
 use Rattle.inc_cell.specs.declared.words.event.CellEvent.{CellEvent}
@@ -74,6 +76,9 @@ HandsIn old who (Plain event) answer = PlainHands old who event answer
 -- ---- one step
 
 pub record CellMoves (old : Seen) (who : ℕ) (event : CellEvent) (answer : Answer) (new : Seen) : Type 0 where
+  -- whoever comes between two steps of a seat has left a legal history, from the opening of the mounted file on
+  pub begins : BeginsAs old.opened old.opening
+  pub legal : IsLegal 0 (tells old.states) old.opening old.history
   pub steps : CellSteps old who (event_of old.opened event) (block_in event) answer new
   pub hands : HandsIn old who event answer
 
