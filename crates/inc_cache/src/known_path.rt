@@ -90,6 +90,7 @@ impl KnownPath {
     pub fn check(self, bytes: Block, digest: Digest32, handed: Path) -> Result<Verified, Broken>
         requires hashed { digest ≡ block_digest (content_at self.shape self.index bytes) }
         requires handed { length handed ≡ missing_levels self.levels }
+        ensures full { length (path_with self.levels handed) ≡ depth self.shape }
         ensures made { IfOk result (λ block. IsMadeOf self.root self.shape self.index bytes (path_with self.levels handed) block) }
         ensures ok { OnOk result (IsProof self.root self.shape self.index (content_at self.shape self.index bytes) (path_with self.levels handed)) }
         ensures broken { IfErr result (λ broken.
