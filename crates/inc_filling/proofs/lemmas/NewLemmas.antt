@@ -27,7 +27,7 @@ key_of i (row ∷ rows) e = step (eqb i row.0) (λ rest. key_of i rows rest) e
     step true rest t = refl
     step false rest t = rest t
 
-of_file : (opened : Opened) (s : FileState) → BeginsAs opened s → IsStateOfFile opened s
+pub of_file : (opened : Opened) (s : FileState) → BeginsAs opened s → IsStateOfFile opened s
 of_file opened s h = record {
   data_is = sym h.told.state.data_is;
   hash_is = sym h.told.state.hash_is;

@@ -95,7 +95,7 @@ later_taken : (opened : Opened) (piece : Piece) (pieces : List Piece) → AreTak
 later_taken opened piece pieces taken k d lt = taken (suc k) d (omega arith)
 
 -- of the first so many
-puts_first : (opened : Opened) (window : Window) (count : ℕ) (group : List Filling) (pieces : List Piece) → StorePieces opened group pieces → AreTaken opened pieces → puts_of opened window (take count group) ≡ map (put_of_piece opened window) (take count pieces)
+pub puts_first : (opened : Opened) (window : Window) (count : ℕ) (group : List Filling) (pieces : List Piece) → StorePieces opened group pieces → AreTaken opened pieces → puts_of opened window (take count group) ≡ map (put_of_piece opened window) (take count pieces)
 puts_first opened window zero group pieces h taken = refl
 puts_first opened window (suc k) [] [] h taken = refl
 puts_first opened window (suc k) [] (p ∷ ps) h taken = absurd h
@@ -104,7 +104,7 @@ puts_first opened window (suc k) (f ∷ fs) (p ∷ ps) h taken =
     ap (λ (event : Event). event ∷ puts_of opened window (take k fs)) (put_same opened window f p (taken 0 p (omega arith)) h.0)
     ∙ ap (λ (l : List Event). put_of_piece opened window p ∷ l) (puts_first opened window k fs ps h.1 (later_taken opened p ps taken))
 
-puts_same : (opened : Opened) (window : Window) (group : List Filling) (pieces : List Piece) → StorePieces opened group pieces → AreTaken opened pieces → puts_of opened window group ≡ map (put_of_piece opened window) pieces
+pub puts_same : (opened : Opened) (window : Window) (group : List Filling) (pieces : List Piece) → StorePieces opened group pieces → AreTaken opened pieces → puts_of opened window group ≡ map (put_of_piece opened window) pieces
 puts_same opened window group pieces h taken =
     ap (puts_of opened window) (sym (take-length group)) ∙ puts_first opened window (length group) group pieces h taken
     ∙ ap (map (put_of_piece opened window)) (ap (λ (n : ℕ). take n pieces) (stored_length opened group pieces h) ∙ take-length pieces)
