@@ -1,0 +1,13 @@
+pub mod Standing
+pub mod Turns
+pub mod Steps
+pub mod Puts
+pub mod Claims
+pub mod Loops
+pub mod PutLoops
+pub mod Finishes
+pub mod Stores
+pub mod Checked
+pub mod Taken
+pub mod Counted
+pub mod Pendings

@@ -1,0 +1,9 @@
+pub mod CellTurns
+pub mod Checks
+pub mod Fills
+pub mod Outcomes
+pub mod Pending
+pub mod Reads
+pub mod Shared
+pub mod Standing
+pub mod UnderWay
