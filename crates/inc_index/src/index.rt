@@ -1,10 +1,10 @@
-ghost use Rattle.std.specs.Prelude.{◌≡◌, ◌+◌, ◌≤◌, ◌↔◌, ℕ, Bool, List, [], ◌∷◌, length, not, IsTrue, IfOk, OnOk, OnErr, MatchOption};
+ghost use Rattle.std.specs.Prelude.{◌≡◌, ◌≢◌, ◌+◌, ◌≤◌, ◌↔◌, ℕ, Bool, List, [], ◌∷◌, length, not, IsTrue, IfOk, OnOk, OnErr, MatchOption};
 ghost use Rattle.std.specs.Option.{option_copied};
 ghost use Rattle.std.specs.Ordering.{nat_cmp, is_gt};
 ghost use Rattle.std.specs.Cmp.Lexicographic.{slice_cmp};
 ghost use Rattle.std.specs.Str.{bytes_eq};
 ghost use Rattle.inc_index.specs.Index.{AreInIdOrder, HasOneMore, all_listed, has_id, incomplete_listed, is_incomplete, name_of_id};
-ghost use Rattle.inc_index.specs.Place.{place_by_id};
+ghost use Rattle.inc_index.specs.Place.{place_by_id, with_file};
 ghost use Rattle.inc_index.specs.declared.index.IndexFault.TheVariants.{OutOfMemory as out_of_memory};
 
 use crate::{Indexed, OutOfMemory};
@@ -64,6 +64,7 @@ impl Index {
     pub fn add(&mut self, id: Id, name: Name, complete: bool) -> Result<(), IndexFault>
         ensures same_id { (result ≡ Err IndexFault.SameId) ↔ IsTrue (has_id id self.old) }
         ensures added { OnOk result (HasOneMore (record { id = id; name = name; complete = complete }) self.old self.new) }
+        ensures placed { result ≢ Err IndexFault.OutOfMemory → self.new ≡ with_file (record { id = id; name = name; complete = complete }) self.old }
         ensures kept { OnErr result (self.new ≡ self.old) }
     {
         if has_id(self.files.as_slice(), &id) {

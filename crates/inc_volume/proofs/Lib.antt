@@ -1,5 +1,6 @@
 pub mod Headers
 pub mod Keeping
+pub mod OwnFaults
 pub mod StandingMeaning
 pub mod SurveyMeaning
 pub mod Told

@@ -1,5 +1,5 @@
 -- What a file's bytes say without any other file: a plain file that stands by itself, a part of another file's content, or neither.
-use Rattle.std.specs.Prelude.{ℕ, Bool, false, List, take, Result, Ok, Err}
+use Rattle.std.specs.Prelude.{◌≢◌, ℕ, Bool, false, List, [], ◌∷◌, take, Result, Ok, Err}
 use Rattle.std.specs.List.{list_all}
 use Rattle.inc_tree.specs.shape.Geometry.{data_blocks}
 use Rattle.inc_header.specs.declared.header.Header.{Header}
@@ -8,6 +8,7 @@ use Rattle.inc_header.specs.declared.header.HeaderKind.TheVariants as kind
 use Rattle.inc_entry.specs.Stored.{is_open_class}
 use Rattle.inc_layout.specs.Backing.{laid_of}
 use Rattle.inc_layout.specs.fixed.Fixed.{front_of}
+use Rattle.inc_layout.specs.opening.Faults.{IsOwnFault}
 use Rattle.inc_layout.specs.declared.fault.LayoutFault.{LayoutFault}
 use Rattle.inc_layout.specs.declared.fault.LayoutFault.TheVariants as fault
 use Rattle.inc_layout.specs.declared.opened.Layout.{Layout}
@@ -51,6 +52,21 @@ abbrev pub standing_by_fault : LayoutFault → Result Standing LendFault
 standing_by_fault fault.ReadFault = Err Failed
 standing_by_fault fault.OutOfMemory = Err OutOfMemory
 standing_by_fault found = Ok (Refused found)
+
+-- a fault that the file has by itself: no failing device and no want of memory, not of a part of it either
+pub record IsFileFault (found : LayoutFault) : Type 0 where
+  pub own : IsOwnFault found
+  pub device : found ≢ fault.ReadFault
+  pub memory : found ≢ fault.OutOfMemory
+
+abbrev pub HasFileFault : Standing → Type 0
+HasFileFault (Plain id size complete) = Unit {0}
+HasFileFault (Part original offset size) = Unit {0}
+HasFileFault (Refused found) = IsFileFault found
+
+abbrev pub HaveFileFaults : List (List ℕ × Standing) → Type 0
+HaveFileFaults [] = Unit {0}
+HaveFileFaults (row ∷ rows) = HasFileFault row.1 × HaveFileFaults rows
 
 -- the same of whether a file may be one that is looked for, by its header: one without a header isn't
 abbrev pub headless : LayoutFault → Result Bool LendFault

@@ -10,7 +10,7 @@ use Rattle.std.specs.Cmp.Lexicographic.{slice_cmp}
 use Rattle.std.specs.declared.cmp.Ordering.TheVariants.{Less}
 use Rattle.std.specs.FinMap.{get, keys}
 use Rattle.inc_io.specs.Contents.{Contents}
-use Rattle.inc_volume.specs.Standings.{standing_of}
+use Rattle.inc_volume.specs.Standings.{IsFileFault, standing_of}
 use Rattle.inc_volume.specs.declared.holder.Holder.{Holder}
 use Rattle.inc_volume.specs.declared.standing.Standing.{Standing}
 use Rattle.inc_volume.specs.declared.standing.Standing.TheVariants as standing
@@ -134,6 +134,19 @@ verdicts_of files = filter_map (named_verdict files) (keys files)
 abbrev pub AreVerdicts : Contents → List (List ℕ × Verdict) → Type 0
 AreVerdicts files [] = Unit {0}
 AreVerdicts files (row ∷ rows) = IsVerdict files row.0 row.1 × AreVerdicts files rows
+
+-- a file that is refused by its layout is so by a fault that it has by itself
+abbrev pub IsByFile : Verdict → Type 0
+IsByFile (Plain id complete) = Unit {0}
+IsByFile (Mapped original offset size) = Unit {0}
+IsByFile (SameId id) = Unit {0}
+IsByFile (NoOriginal original) = Unit {0}
+IsByFile (PastOriginal original) = Unit {0}
+IsByFile (Refused fault) = IsFileFault fault
+
+abbrev pub AreByFile : List (List ℕ × Verdict) → Type 0
+AreByFile [] = Unit {0}
+AreByFile (row ∷ rows) = IsByFile row.1 × AreByFile rows
 
 -- ---- what all files say of themselves, from which the verdicts are made
 

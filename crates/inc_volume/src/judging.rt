@@ -4,7 +4,8 @@ ghost use Rattle.std.specs.Str.{bytes_eq};
 ghost use Rattle.inc_io.specs.Causes.{HasCauseAt};
 ghost use Rattle.inc_io.specs.Outside.{NoneOut};
 ghost use Rattle.inc_io.specs.declared.failed.LendFault.TheVariants.{Failed as lend_failed};
-ghost use Rattle.inc_volume.specs.Verdicts.{IsVerdict, holder_of, part_verdict, plain_verdict, standing_at, verdict_of, verdict_with};
+ghost use Rattle.inc_volume.specs.Standings.{HasFileFault};
+ghost use Rattle.inc_volume.specs.Verdicts.{IsByFile, IsVerdict, holder_of, part_verdict, plain_verdict, standing_at, verdict_of, verdict_with};
 
 use crate::holder::{Holder, find_holder};
 use crate::standing::{Standing, stand};
@@ -25,6 +26,7 @@ pub fn judge<S: ReadShelf>(
     ensures answer { IfSome (S.contents (S.kept shelf.old)) (λ files. IfOk result (λ verdict. verdict ≡ verdict_of files name.now)) }
     // In words it is what stands there.
     ensures meaning { IfSome (S.contents (S.kept shelf.old)) (λ files. IfOk result (λ verdict. IfSome verdict (IsVerdict files name.now))) }
+    ensures own { IfOk result (λ verdict. IfSome verdict (λ verdict. IsByFile verdict)) }
     ensures kept { S.kept shelf.new ≡ S.kept shelf.old }
     ensures back { NoneOut (S.out shelf.new) }
     ensures cause { HasCauseAt lend_failed (S.faults shelf.old) (S.faults shelf.new) result }
@@ -43,6 +45,7 @@ pub fn stand_at<S: ReadShelf>(
 ) -> Result<Option<Standing>, LendFault>
     requires { NoneOut (S.out shelf.old) }
     ensures answer { IfSome (S.contents (S.kept shelf.old)) (λ files. IfOk result (λ standing. standing ≡ standing_at files name.now)) }
+    ensures own { IfOk result (λ standing. IfSome standing (λ standing. HasFileFault standing)) }
     ensures kept { S.kept shelf.new ≡ S.kept shelf.old }
     ensures back { NoneOut (S.out shelf.new) }
     ensures cause { HasCauseAt lend_failed (S.faults shelf.old) (S.faults shelf.new) result }
@@ -62,8 +65,10 @@ fn verdict_by<S: ReadShelf>(
     name: &Name,
     standing: Standing,
 ) -> Result<Verdict, LendFault>
-    requires { NoneOut (S.out shelf.old) }
+    requires none_out { NoneOut (S.out shelf.old) }
+    requires own { HasFileFault standing }
     ensures answer { IfSome (S.contents (S.kept shelf.old)) (λ files. IfOk result (λ verdict. verdict ≡ verdict_with (holder_of files) name.now standing)) }
+    ensures own { IfOk result (λ verdict. IsByFile verdict) }
     ensures kept { S.kept shelf.new ≡ S.kept shelf.old }
     ensures back { NoneOut (S.out shelf.new) }
     ensures cause { HasCauseAt lend_failed (S.faults shelf.old) (S.faults shelf.new) result }
@@ -88,6 +93,7 @@ fn verdict_by<S: ReadShelf>(
 /// The verdict of a plain file, by who keeps its id.
 pub fn plain_verdict(name: &Name, id: Id, complete: bool, holder: &Option<Holder>) -> Verdict
     ensures value { result ≡ plain_verdict name.now id complete holder.now }
+    ensures own { IsByFile result }
 {
     match holder {
         Some(holder) => {
@@ -104,6 +110,7 @@ pub fn plain_verdict(name: &Name, id: Id, complete: bool, holder: &Option<Holder
 /// The verdict of a mapped file, by who keeps its original's id.
 pub fn part_verdict(original: Id, offset: u64, size: u64, holder: &Option<Holder>) -> Verdict
     ensures value { result ≡ part_verdict original offset size holder.now }
+    ensures own { IsByFile result }
 {
     match holder {
         Some(holder) => {

@@ -4,7 +4,8 @@ ghost use Rattle.std.specs.FinMap.{keys};
 ghost use Rattle.inc_io.specs.Causes.{HasCauseAt};
 ghost use Rattle.inc_io.specs.Outside.{NoneOut};
 ghost use Rattle.inc_io.specs.declared.failed.LendFault.TheVariants.{Failed as lend_failed};
-ghost use Rattle.inc_volume.specs.Verdicts.{AreVerdicts, holder_in, judged_rows, standings_among, verdict_with, verdicts_of};
+ghost use Rattle.inc_volume.specs.Standings.{HasFileFault, HaveFileFaults};
+ghost use Rattle.inc_volume.specs.Verdicts.{AreByFile, AreVerdicts, holder_in, judged_rows, named_standing, standings_among, verdict_with, verdicts_of};
 
 use crate::OutOfMemory;
 use crate::holder::{Holder, size_with};
@@ -29,6 +30,8 @@ pub fn survey<S: ReadShelf>(alloc: Global, shelf: &mut S) -> Result<VerdictList,
     // In words each name of the shelf has one verdict, and it is what stands there.
     ensures names { IfSome (S.contents (S.kept shelf.old)) (λ files. IfOk result (λ list. map (λ row. row.0) list ≡ keys files)) }
     ensures meaning { IfSome (S.contents (S.kept shelf.old)) (λ files. IfOk result (AreVerdicts files)) }
+    // No failing device and no want of memory is told as a fault of a file.
+    ensures own { IfOk result (λ list. AreByFile list) }
     ensures kept { S.kept shelf.new ≡ S.kept shelf.old }
     ensures back { NoneOut (S.out shelf.new) }
     ensures cause { HasCauseAt lend_failed (S.faults shelf.old) (S.faults shelf.new) result }
@@ -39,6 +42,7 @@ pub fn survey<S: ReadShelf>(alloc: Global, shelf: &mut S) -> Result<VerdictList,
 }
 
 /// What the files under these names say of themselves.
+#[tactic(auto, using(crate::proofs::OwnFaults::standings_with))]
 fn stand_all<S: ReadShelf>(
     alloc: Global,
     shelf: &mut S,
@@ -46,6 +50,7 @@ fn stand_all<S: ReadShelf>(
 ) -> Result<StandingList, LendFault>
     requires { NoneOut (S.out shelf.old) }
     ensures answer { IfSome (S.contents (S.kept shelf.old)) (λ files. IfOk result (λ list. list ≡ standings_among files names.now)) }
+    ensures own { IfOk result (λ list. HaveFileFaults list) }
     ensures kept { S.kept shelf.new ≡ S.kept shelf.old }
     ensures back { NoneOut (S.out shelf.new) }
     ensures cause { HasCauseAt lend_failed (S.faults shelf.old) (S.faults shelf.new) result }
@@ -53,12 +58,31 @@ fn stand_all<S: ReadShelf>(
     let mut list = StandingList::new(alloc);
     let mut rest = names;
     while let [name, after @ ..] = rest {
-        if let Some(standing) = stand_at(alloc, shelf, name)? {
-            list.push((name.copy(alloc)?, standing))?;
+        if let Some(row) = stand_row(alloc, shelf, name)? {
+            list.push(row)?;
         }
         rest = after;
     }
     Ok(list)
+}
+
+/// A name with what its file says of itself, where one stands there.
+fn stand_row<S: ReadShelf>(
+    alloc: Global,
+    shelf: &mut S,
+    name: &Name,
+) -> Result<Option<(Name, Standing)>, LendFault>
+    requires { NoneOut (S.out shelf.old) }
+    ensures answer { IfSome (S.contents (S.kept shelf.old)) (λ files. IfOk result (λ row. row ≡ named_standing files name.now)) }
+    ensures own { IfOk result (λ row. IfSome row (λ row. HasFileFault row.1)) }
+    ensures kept { S.kept shelf.new ≡ S.kept shelf.old }
+    ensures back { NoneOut (S.out shelf.new) }
+    ensures cause { HasCauseAt lend_failed (S.faults shelf.old) (S.faults shelf.new) result }
+{
+    match stand_at(alloc, shelf, name)? {
+        Some(standing) => Ok(Some((name.copy(alloc)?, standing))),
+        None => Ok(None),
+    }
 }
 
 /// The verdicts of these files, where they are all of the shelf.

@@ -5,8 +5,9 @@ ghost use Rattle.inc_io.specs.Causes.{HasCauseAt};
 ghost use Rattle.inc_io.specs.declared.failed.LendFault.TheVariants.{Failed as lend_failed};
 ghost use Rattle.inc_entry.specs.Stored.{is_open_class};
 ghost use Rattle.inc_layout.specs.fixed.Fixed.{front_of};
+ghost use Rattle.inc_layout.specs.opening.Faults.{IsOwnFault};
 ghost use Rattle.inc_layout.specs.opening.Opening.{IsSoundLayout};
-ghost use Rattle.inc_volume.specs.Standings.{part_in, part_standing, plain_standing, standing_by_fault, standing_of};
+ghost use Rattle.inc_volume.specs.Standings.{HasFileFault, part_in, part_standing, plain_standing, standing_by_fault, standing_of};
 
 use inc_bytes::Id;
 use inc_entry::Class;
@@ -37,6 +38,7 @@ pub enum Standing {
 /// Reads what a file says of itself. It reads no block.
 pub fn stand<B: Backing>(alloc: Global, file: &mut B) -> Result<Standing, LendFault>
     ensures answer { IfSome (B.reads (B.kept file.old)) (λ bytes. IfOk result (λ standing. standing ≡ standing_of bytes)) }
+    ensures own { IfOk result (λ standing. HasFileFault standing) }
     ensures kept { B.kept file.new ≡ B.kept file.old }
     ensures cause { HasCauseAt lend_failed (B.faults file.old) (B.faults file.new) result }
 {
@@ -52,6 +54,7 @@ pub fn stand<B: Backing>(alloc: Global, file: &mut B) -> Result<Standing, LendFa
 /// What the header of a file says that is no plain one.
 fn part_of<B: Backing>(file: &mut B) -> Result<Standing, LendFault>
     ensures answer { IfSome (B.reads (B.kept file.old)) (λ bytes. IfOk result (λ standing. standing ≡ part_standing (front_of bytes))) }
+    ensures own { IfOk result (λ standing. HasFileFault standing) }
     ensures kept { B.kept file.new ≡ B.kept file.old }
     ensures cause { HasCauseAt lend_failed (B.faults file.old) (B.faults file.new) result }
 {
@@ -64,6 +67,7 @@ fn part_of<B: Backing>(file: &mut B) -> Result<Standing, LendFault>
 fn plain(layout: &Layout) -> Standing
     requires { IsSoundLayout layout.now }
     ensures value { result ≡ plain_standing layout.now }
+    ensures own { HasFileFault result }
 {
     let count = layout.areas.geometry.data_blocks();
     let (first, _) = layout.classes.as_slice().split_at(count as usize);
@@ -88,6 +92,7 @@ fn is_open(class: Class) -> bool
 
 fn part(header: &Header) -> Standing
     ensures value { result ≡ part_in header.now header.now.kind }
+    ensures own { HasFileFault result }
 {
     match header.kind {
         HeaderKind::Mapped { offset } => Standing::Part {
@@ -101,7 +106,9 @@ fn part(header: &Header) -> Standing
 
 /// A fault of the file is what it says; one of the device, or want of memory, says nothing of it.
 fn refused(fault: LayoutFault) -> Result<Standing, LendFault>
+    requires { IsOwnFault fault }
     ensures value { result ≡ standing_by_fault fault }
+    ensures own { IfOk result (λ standing. HasFileFault standing) }
 {
     match fault {
         LayoutFault::ReadFault => Err(LendFault::Failed),
