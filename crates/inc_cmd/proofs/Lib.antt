@@ -2,6 +2,9 @@ pub mod CheckLemmas
 pub mod filling
 pub mod GoodBlocks
 pub mod InputLemmas
+pub mod ListingCount
+pub mod ListingLemmas
+pub mod ListingMeaning
 pub mod MakeLemmas
 pub mod OutputLemmas
 pub mod ReadLemmas

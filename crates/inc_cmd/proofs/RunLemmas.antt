@@ -11,10 +11,11 @@ use Rattle.inc_layout.specs.Fresh.{unsigned_of}
 use Rattle.inc_cmd.proofs.InputLemmas.{taken_none}
 use Rattle.inc_cmd.proofs.MakeLemmas.{adds_none, leaves_none}
 use Rattle.inc_cmd.proofs.filling.ShelfFills.{same_extends, same_leaves}
+use Rattle.inc_cmd.specs.Commands.Listing.{list_ending}
 use Rattle.inc_cmd.specs.Commands.Make.{LeavesNew, make_answer, new_file, sized}
 use Rattle.inc_words.specs.Endings.{AnswersAs, EndsAs}
 use Rattle.inc_cmd.specs.Runs.{Appends, AppendsFront, ChangesOnly, EndsAsPlain, HasCauseIn, HasEitherCause, IfLogs, IfTold, IsAnswered, KeepsShelf, KeepsUndone, LeavesFiles, Prints, PrintsFront, Settles, Shows, TakesInput, Vouches, WordsAreTold, given_to}
-use Rattle.inc_words.specs.Command.{Command, Make, Fill, Over, Misfit}
+use Rattle.inc_words.specs.Command.{Command, Make, Fill, Over, Listing, Misfit}
 use Rattle.inc_words.specs.declared.words.FileCommand.{FileCommand}
 use Rattle.inc_words.specs.declared.outcome.CommandOutcome.{CommandOutcome}
 use Rattle.inc_words.specs.declared.stop.Stop.{Stop}
@@ -64,6 +65,13 @@ over_answered None now left name file result same ends = tt
 over_answered (Some files) now left name file (Ok outcome) same ends = λ other. record { status_is = ends.status_is; text_is = ends.text_is; after_is = same }
 over_answered (Some files) now left name file (Err stop) same ends = tt
 
+-- and so does a listing
+pub listing_answered : (told now : Option Contents) (left : Option (List ℕ)) (result : Result CommandOutcome Stop) → now ≡ told → IfSome told (λ files. IfOk result (EndsAs (list_ending files)))
+    → IfTold Listing told left (λ files given. IfOk result (λ outcome. outcome.status.0 ≢ 7 → AnswersAs (plain Listing files given) outcome now))
+listing_answered None now left result same ends = tt
+listing_answered (Some files) now left (Ok outcome) same ends = λ other. record { status_is = ends.status_is; text_is = ends.text_is; after_is = same }
+listing_answered (Some files) now left (Err stop) same ends = tt
+
 -- what is shown of the bytes that were lent is shown of the file
 pub over_shows : (told : Option Contents) (read : Option (List ℕ)) (name : List ℕ) (command : FileCommand) (result : Result CommandOutcome Stop)
     → IfSome told (λ files. true ≡ is_some (get files name)) → IfSome told (λ files. read ≡ get files name)
@@ -85,6 +93,7 @@ pub shelf_kept : {K : Type 0} (command : Command) (kept : K) → KeepsShelf comm
 shelf_kept (Make name size id unsigned) kept = tt
 shelf_kept (Fill name) kept = tt
 shelf_kept (Over name file) kept = refl
+shelf_kept Listing kept = refl
 shelf_kept (Misfit position) kept = refl
 
 pub nothing_changed : (log : Option Log) (command : Command) → IfLogs log log (ChangesOnly command)
@@ -92,6 +101,7 @@ nothing_changed None command = tt
 nothing_changed (Some log) (Make name size id unsigned) = adds_none (Some log) (Some log) name refl
 nothing_changed (Some log) (Fill name) = same_extends (Some log) (Some log) name refl
 nothing_changed (Some log) (Over name file) = refl
+nothing_changed (Some log) Listing = refl
 nothing_changed (Some log) (Misfit position) = refl
 
 pub none_changed : (before after : Option Log) (command : Command) → after ≡ before → IfLogs before after (ChangesOnly command)
@@ -103,6 +113,7 @@ nothing_left None (Some log) (Make name size id unsigned) = tt
 nothing_left (Some given) (Some log) (Make name size id unsigned) = leaves_none (Some log) (Some log) name (new_file size id unsigned given) refl
 nothing_left given (Some log) (Fill name) = same_leaves (Some log) (Some log) name given refl
 nothing_left given (Some log) (Over name file) = refl
+nothing_left given (Some log) Listing = refl
 nothing_left given (Some log) (Misfit position) = refl
 
 -- what a make leaves hangs on what it is given
@@ -123,12 +134,14 @@ pub undone : {K : Type 0} (command : Command) (kept : K) → KeepsUndone command
 undone (Make name size id unsigned) kept = refl
 undone (Fill name) kept = tt
 undone (Over name file) kept = refl
+undone Listing kept = refl
 undone (Misfit position) kept = refl
 
 pub takes_nothing : (command : Command) (left : Option (List ℕ)) → TakesInput command left left
 takes_nothing (Make name size id unsigned) left = (0, omega arith, taken_none left)
 takes_nothing (Fill name) left = (0, taken_none left)
 takes_nothing (Over name file) left = refl
+takes_nothing Listing left = refl
 takes_nothing (Misfit position) left = refl
 
 -- ---- counts
@@ -149,6 +162,7 @@ pub no_memory_told : (command : Command) → WordsAreTold command 6
 no_memory_told (Make name size id unsigned) = λ e. absurd (omega (arith, e))
 no_memory_told (Fill name) = λ e. absurd (omega (arith, e))
 no_memory_told (Over name file) = λ e. absurd (omega (arith, e))
+no_memory_told Listing = λ e. absurd (omega (arith, e))
 no_memory_told (Misfit position) = inr refl
 
 -- what was answered of the words is told at the end
@@ -156,6 +170,7 @@ pub words_sent : (command : Command) (before after : ℕ) → WordsAreTold comma
 words_sent (Make name size id unsigned) before after told few bad good = λ e. told (good e)
 words_sent (Fill name) before after told few bad good = λ e. told (good e)
 words_sent (Over name file) before after told few bad good = λ e. told (good e)
+words_sent Listing before after told few bad good = λ e. told (good e)
 words_sent (Misfit position) before after (inl is) few bad good = inl (bad is)
 words_sent (Misfit position) before after (inr full) (inl few) bad good = absurd (omega (arith, full))
 words_sent (Misfit position) before after (inr full) (inr seven) bad good = absurd (omega (arith, full, seven))

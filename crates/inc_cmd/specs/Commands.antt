@@ -5,6 +5,7 @@ use Rattle.inc_io.specs.Contents.{Contents}
 use Rattle.inc_cmd.specs.Commands.Check.{AreAllProved, check_ending}
 use Rattle.inc_cmd.specs.Commands.Fill.{fill_answer}
 use Rattle.inc_cmd.specs.Commands.Inspect.{inspect_ending}
+use Rattle.inc_cmd.specs.Commands.Listing.{list_ending}
 use Rattle.inc_cmd.specs.Commands.Make.{make_answer}
 use Rattle.inc_cmd.specs.Commands.Ranges.{ShowsRanges, ranges_ending}
 use Rattle.inc_cmd.specs.Commands.Read.{ShowsBlock, VouchesRead, read_ending}
@@ -18,6 +19,7 @@ pub mod Check
 pub mod Fill
 pub mod FillMoments
 pub mod Inspect
+pub mod Listing
 pub mod Make
 pub mod Ranges
 pub mod Read
@@ -56,4 +58,5 @@ abbrev pub plain : Command → Contents → List ℕ → Answer
 plain (words.Make name size id unsigned) files given = make_answer name size id unsigned files given
 plain (words.Fill name) files given = fill_answer name files given (get files name)
 plain (words.Over name command) files given = leaving files (stored_ending command name (get files name))
+plain words.Listing files given = leaving files (list_ending files)
 plain (words.Misfit position) files given = leaving files (misfit position)

@@ -6,10 +6,11 @@ use Rattle.inc_io.specs.Contents.{Contents}
 use Rattle.inc_disk.specs.Log.{Log}
 use Rattle.inc_cmd.specs.Commands.{ShowsOf, VouchesOf, plain}
 use Rattle.inc_cmd.specs.Commands.Fill.{EndsFull}
+use Rattle.inc_cmd.specs.Commands.Listing.{ListsNames}
 use Rattle.inc_cmd.specs.Commands.Make.{AddsOnly, IsMade, LeavesNew, most_taken, new_file}
 use Rattle.inc_cmd.specs.Commands.FillMoments.{EndsSettled, ExtendsOnly, LeavesFilled}
 use Rattle.inc_words.specs.Endings.{Answer}
-use Rattle.inc_words.specs.Command.{Command, Make, Fill, Over, Misfit}
+use Rattle.inc_words.specs.Command.{Command, Make, Fill, Over, Listing, Misfit}
 use Rattle.inc_words.specs.declared.outcome.CommandOutcome.{CommandOutcome}
 use Rattle.inc_words.specs.declared.stop.Stop.{Stop}
 use Rattle.inc_words.specs.declared.stop.Stop.TheVariants.{Fault, OutOfMemory}
@@ -60,6 +61,7 @@ abbrev pub reads_input : Command → Bool
 reads_input (Make name size id unsigned) = not unsigned
 reads_input (Fill name) = true
 reads_input (Over name command) = false
+reads_input Listing = false
 reads_input (Misfit position) = false
 
 -- what a command is given: nothing, where it reads nothing
@@ -91,6 +93,7 @@ abbrev pub TakesInput : Command → Option (List ℕ) → Option (List ℕ) → 
 TakesInput (Make name size id unsigned) before after = TakesFront most_taken before after
 TakesInput (Fill name) before after = TakesSome before after
 TakesInput (Over name command) before after = after ≡ before
+TakesInput Listing before after = after ≡ before
 TakesInput (Misfit position) before after = after ≡ before
 
 -- what is left of it, whether it has ended, and its count
@@ -112,6 +115,7 @@ WordsAreTold (Misfit position) status = (status ≡ 1) ⊎ (status ≡ 6)
 WordsAreTold (Make name size id unsigned) status = status ≢ 1
 WordsAreTold (Fill name) status = status ≢ 1
 WordsAreTold (Over name command) status = status ≢ 1
+WordsAreTold Listing status = status ≢ 1
 
 -- the shelf failed, or the input of a command that reads it
 abbrev pub HasFailed : Command → ℕ → ℕ → ℕ → ℕ → Type 0
@@ -140,6 +144,7 @@ abbrev pub KeepsShelf : {K : Type 0} → Command → K → K → Type 0
 KeepsShelf (Make name size id unsigned) before now = Unit {0}
 KeepsShelf (Fill name) before now = Unit {0}
 KeepsShelf (Over name command) before now = now ≡ before
+KeepsShelf Listing before now = now ≡ before
 KeepsShelf (Misfit position) before now = now ≡ before
 
 -- which files a run may change
@@ -147,6 +152,7 @@ abbrev pub ChangesOnly : Command → Log → Log → Type 0
 ChangesOnly (Make name size id unsigned) before after = AddsOnly name before after
 ChangesOnly (Fill name) before after = ExtendsOnly name before after
 ChangesOnly (Over name command) before after = after ≡ before
+ChangesOnly Listing before after = after ≡ before
 ChangesOnly (Misfit position) before after = after ≡ before
 
 -- what is left where the input failed, and where the command isn't done: a fill's pieces before that are in, by the moments below
@@ -154,6 +160,7 @@ abbrev pub KeepsUndone : {K : Type 0} → Command → K → K → Type 0
 KeepsUndone (Make name size id unsigned) before now = now ≡ before
 KeepsUndone (Fill name) before now = Unit {0}
 KeepsUndone (Over name command) before now = now ≡ before
+KeepsUndone Listing before now = now ≡ before
 KeepsUndone (Misfit position) before now = now ≡ before
 
 -- What a crash at any moment of the run leaves. Of a make it hangs on what the input gives; of a fill only which pieces were put does.
@@ -161,6 +168,7 @@ abbrev pub LeavesFiles : Command → Option (List ℕ) → Log → Log → Type 
 LeavesFiles (Make name size id unsigned) given before after = IfSome given (λ given. LeavesNew name (new_file size id unsigned given) before after)
 LeavesFiles (Fill name) given before after = LeavesFilled name given before after
 LeavesFiles (Over name command) given before after = after ≡ before
+LeavesFiles Listing given before after = after ≡ before
 LeavesFiles (Misfit position) given before after = after ≡ before
 
 -- what a crash leaves of a run that wasn't stopped from outside: of a fill all that is open
@@ -168,6 +176,7 @@ abbrev pub Settles : Command → Option (List ℕ) → Log → Log → Type 0
 Settles (Make name size id unsigned) given before after = Unit {0}
 Settles (Fill name) given before after = EndsSettled name given before after
 Settles (Over name command) given before after = after ≡ before
+Settles Listing given before after = after ≡ before
 Settles (Misfit position) given before after = after ≡ before
 
 -- what stands where a history is full: the file with at least so many pieces of the stream. No command but a fill has one
@@ -175,6 +184,7 @@ abbrev pub HasFullHistory : Command → Option Contents → Option (List ℕ) �
 HasFullHistory (Make name size id unsigned) files given now = ⊥
 HasFullHistory (Fill name) files given now = IfSome files (λ files. IfSome given (λ given. EndsFull name files given now))
 HasFullHistory (Over name command) files given now = ⊥
+HasFullHistory Listing files given now = ⊥
 HasFullHistory (Misfit position) files given now = ⊥
 
 -- what stands once status 0 is told
@@ -182,15 +192,17 @@ abbrev pub Made : Command → List ℕ → Log → Type 0
 Made (Make name size id unsigned) given after = IsMade name (new_file size id unsigned given) after
 Made (Fill name) given after = Unit {0}
 Made (Over name command) given after = Unit {0}
+Made Listing given after = Unit {0}
 Made (Misfit position) given after = ⊥
 
 -- ---- what status 0 means
 
--- over the files: a make and a fill show no block
+-- over the files: a make and a fill show no block; a listing says of each name what stands there
 abbrev pub Shows : Command → Contents → List ℕ → Type 0
 Shows (Make name size id unsigned) files text = Unit {0}
 Shows (Fill name) files text = Unit {0}
 Shows (Over name command) files text = IsSomeAnd (get files name) (λ bytes. ShowsOf command bytes text)
+Shows Listing files text = ListsNames files text
 Shows (Misfit position) files text = ⊥
 
 -- whatever the shelf tells
@@ -198,4 +210,5 @@ abbrev pub Vouches : Command → List ℕ → Type 0
 Vouches (Make name size id unsigned) text = Unit {0}
 Vouches (Fill name) text = Unit {0}
 Vouches (Over name command) text = VouchesOf command text
+Vouches Listing text = Unit {0}
 Vouches (Misfit position) text = ⊥

@@ -10,6 +10,7 @@ ghost use Rattle.inc_words.specs.declared.stop.Stop.TheVariants.{Fault as stop_f
 mod check;
 mod fill;
 mod inspect;
+mod listing;
 mod make;
 mod ranges;
 mod read;
@@ -19,6 +20,7 @@ pub use fill::fill_name;
 use inc_io::{Backing, Name, ReadShelf};
 use inc_words::{CommandOutcome, FileCommand, Stop, missing, refuse};
 use inspect::inspect_file;
+pub use listing::list_names;
 pub use make::make_new;
 use ranges::list_ranges;
 use read::read_block;

@@ -31,7 +31,8 @@ pub fn run_plain<S: Shelf, I: Source, O: Sink, C: Clock>(
     ensures silent { result.0 ≡ 7 → Appends (O.written out.old) (O.written out.new) [] }
     // In any case what was written is a front of the definition's text.
     ensures front { PrintsFront (command_in words.now) (S.contents (S.kept shelf.old)) (I.left input.old) (O.written out.old) (O.written out.new) }
-    // At status 0 a block that is shown is the file's, and proved, or marked as unproved; and the blocks of a checked file are all proved.
+    // At status 0 a block that is shown is the file's, and proved, or marked as unproved; the blocks of a checked file are all proved; and a
+    // listing says of each name what stands there.
     ensures proved { result.0 ≡ 0 → IfSome (S.contents (S.kept shelf.old)) (λ files. Prints (O.written out.old) (O.written out.new) (Shows (command_in words.now) files)) }
     // Whatever the shelf tells: a path leads from a block that is shown to a root.
     ensures vouched { result.0 ≡ 0 → Prints (O.written out.old) (O.written out.new) (Vouches (command_in words.now)) }

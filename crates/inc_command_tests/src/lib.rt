@@ -18,6 +18,8 @@ mod checking;
 #[cfg(test)]
 mod filling;
 #[cfg(test)]
+mod listing;
+#[cfg(test)]
 mod making;
 #[cfg(test)]
 mod ranging;

@@ -7,10 +7,10 @@ use inc_io::{Bytes, MemSink, MemSource, Name, StepClock};
 use std::alloc::{AllocError, Global};
 
 /// More bytes than a file has.
-const ROOM: u64 = 1 << 20;
+pub const ROOM: u64 = 1 << 20;
 
 /// More calls than a command makes of a file.
-const MANY: u32 = 100;
+pub const MANY: u32 = 100;
 
 /// Which calls fail.
 #[derive(Clone, Copy)]
@@ -55,7 +55,7 @@ pub fn over_shelf(
 }
 
 /// Status and text of a run over this shelf.
-fn run_over(
+pub fn run_over(
     alloc: Global,
     words: &str,
     shelf: &mut MemShelf,

@@ -77,6 +77,10 @@ const OF_A_COMMAND: &[Misfit] = &[
         words: "fill a/b",
         at: 1,
     },
+    Misfit {
+        words: "list one",
+        at: 1,
+    },
 ];
 
 #[test]

@@ -2,7 +2,7 @@
 use Rattle.std.specs.Prelude.{◌≡◌, ℕ, List, Option, Result, Ok, Err}
 use Rattle.inc_words.specs.Command as words
 use Rattle.inc_words.specs.declared.words.Command.{Command}
-use Rattle.inc_words.specs.declared.words.Command.TheVariants.{Make, Fill, Over}
+use Rattle.inc_words.specs.declared.words.Command.TheVariants.{Make, Fill, Over, Listing}
 use Rattle.inc_words.specs.declared.words.WordsFault.{WordsFault}
 use Rattle.inc_words.specs.declared.words.WordsFault.TheVariants.{Bad, OutOfMemory}
 
@@ -11,6 +11,7 @@ abbrev pub named : Command → words.Command
 named (Make name size id unsigned) = words.Make name size id unsigned
 named (Fill name) = words.Fill name
 named (Over name command) = words.Over name command
+named Listing = words.Listing
 
 -- the result is this command, or want of memory
 abbrev pub Reads : words.Command → Result Command WordsFault → Type 0

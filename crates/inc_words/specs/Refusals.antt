@@ -41,6 +41,15 @@ unknown_file = codes "unknown-file"
 unfoldable pub bad_range : List ℕ
 bad_range = codes "bad-range"
 
+unfoldable pub same_id : List ℕ
+same_id = codes "same-id"
+
+unfoldable pub no_original : List ℕ
+no_original = codes "no-original"
+
+unfoldable pub past_original : List ℕ
+past_original = codes "past-original"
+
 -- ---- words of a file
 
 unfoldable pub header_word : HeaderFault → List ℕ

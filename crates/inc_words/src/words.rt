@@ -7,6 +7,7 @@ ghost use Rattle.inc_words.specs.declared.words.WordsFault.TheVariants.{OutOfMem
 mod check;
 mod fill;
 mod inspect;
+mod listing;
 mod make;
 mod ranges;
 mod read;
@@ -18,6 +19,7 @@ use inc_bytes::Id;
 use inc_io::Name;
 use inc_tree::Digest32;
 use inspect::{is_inspect, parse_inspect};
+use listing::{is_list, parse_list};
 use make::{is_make, parse_make};
 use ranges::{is_ranges, parse_ranges};
 use read::{is_read, parse_read};
@@ -42,6 +44,8 @@ pub enum Command {
         name: Name,
         command: FileCommand,
     },
+    /// Say of each name what stands under it, and write nothing.
+    Listing,
 }
 
 /// A command that only reads, and one file alone.
@@ -102,6 +106,8 @@ pub fn parse_words(alloc: Global, words: &[String]) -> Result<Command, WordsFaul
                 parse_inspect(alloc, rest)
             } else if is_ranges(word.as_str()) {
                 parse_ranges(alloc, rest)
+            } else if is_list(word.as_str()) {
+                parse_list(rest)
             } else {
                 Err(WordsFault::Bad { at: 0 })
             }

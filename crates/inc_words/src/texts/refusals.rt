@@ -2,7 +2,7 @@
 ghost use Rattle.std.specs.Prelude.{◌≡◌, ◌≢◌, IfOk, IfErr, Ok, Err};
 ghost use Rattle.inc_layout.specs.opening.Faults.{IsOwnFault};
 ghost use Rattle.inc_layout.specs.declared.fault.LayoutFault.TheVariants.{ReadFault as layout_read_fault};
-ghost use Rattle.inc_words.specs.Refusals.{bad_range, chain_word, exists, header_word, layout_word, missing, root_differs, signature_word, too_large, too_long, unknown_file, unsigned};
+ghost use Rattle.inc_words.specs.Refusals.{bad_range, chain_word, exists, header_word, layout_word, missing, no_original, past_original, root_differs, same_id, signature_word, too_large, too_long, unknown_file, unsigned};
 ghost use Rattle.inc_words.specs.declared.stop.Stop.TheVariants.{Fault as stop_fault};
 
 use crate::stop::Stop;
@@ -66,6 +66,30 @@ pub fn bad_range() -> &'static [u8]
     ensures value { result.now ≡ bad_range }
 {
     b"bad-range"
+}
+
+/// Of a file whose id another one keeps.
+#[tactic(auto, unfolding(crate::specs::Refusals::same_id))]
+pub fn same_id() -> &'static [u8]
+    ensures value { result.now ≡ same_id }
+{
+    b"same-id"
+}
+
+/// Of a mapped file whose original isn't there.
+#[tactic(auto, unfolding(crate::specs::Refusals::no_original))]
+pub fn no_original() -> &'static [u8]
+    ensures value { result.now ≡ no_original }
+{
+    b"no-original"
+}
+
+/// Of a mapped file whose part would end past its original.
+#[tactic(auto, unfolding(crate::specs::Refusals::past_original))]
+pub fn past_original() -> &'static [u8]
+    ensures value { result.now ≡ past_original }
+{
+    b"past-original"
 }
 
 /// The word of a file's refusal. What failed outside of the file stops the command.
