@@ -1,5 +1,6 @@
 ghost use Rattle.std.specs.Prelude.{◌≡◌, ◌≤◌, ◌^◌, length, is_some, IfErr, IfOk, IfSome, Ok};
 ghost use Rattle.inc_io.specs.Causes.{HasCauseAt};
+ghost use Rattle.inc_header.specs.Header.{IsHeader};
 ghost use Rattle.inc_md.specs.Inside.{AreRecordsInside};
 ghost use Rattle.inc_signature.specs.Signature.{signature_of};
 ghost use Rattle.inc_layout.specs.opening.Faults.{GivesOpening, IsOwnFault};
@@ -49,6 +50,8 @@ pub fn read_front<B: Backing>(file: &mut B) -> Result<Front, LayoutFault>
     ensures answer { IfSome (B.reads (B.kept file.old)) (λ bytes. GivesFront bytes result) }
     // In words it is what the first bytes spell.
     ensures stands { IfSome (B.reads (B.kept file.old)) (λ bytes. IfOk result (λ front. IsHeaderOf bytes front.header)) }
+    // Whether the bytes are told or not, it is a header that has a spelling.
+    ensures spelled { IfOk result (λ front. IsHeader front.header) }
     ensures short { IfOk result (λ front. front.len ≤ 2 ^ 47) }
     ensures kept { B.kept file.new ≡ B.kept file.old }
     ensures cause { HasCauseAt read_fault (B.faults file.old) (B.faults file.new) result }

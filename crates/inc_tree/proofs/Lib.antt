@@ -8,4 +8,5 @@ pub mod RootLemmas
 pub mod RoundLemmas
 pub mod ShapeLemmas
 pub mod VerifyLemmas
+pub mod WholeBlocks
 pub mod WordLemmas

@@ -1,7 +1,7 @@
 -- A block is hashed as filled up with zeros, so a path proves its content where it proves the cleared block.
-use Rattle.std.proofs.Common.{◌≡◌, ℕ, zero, suc, ◌-◌, ◌≤◌, List, ◌++◌, length, take, replicate, refl, sym, ap, ◌∙◌, arith, length-append}
-use Rattle.std.proofs.lemmas.List.{length-replicate, append-nil}
-use Rattle.inc_tree.specs.read_block.Path.{padded, digest_below, NamesBreak}
+use Rattle.std.proofs.Common.{◌≡◌, ℕ, zero, suc, ◌-◌, ◌≤◌, List, [], ◌∷◌, ◌++◌, length, map, get_or, take, replicate, refl, sym, ap, ◌∙◌, arith, length-append}
+use Rattle.std.proofs.lemmas.List.{length-replicate, append-nil, get_or-map}
+use Rattle.inc_tree.specs.read_block.Path.{block_digest, padded, digest_below, NamesBreak}
 use Rattle.sha2.specs.Sha256.{sha256}
 
 -- a block that was cleared from its length on is its content filled up with zeros
@@ -37,3 +37,11 @@ break_of_content root index new content path level wanted got is whole names =
       wanted_is = names.wanted_is;
       got_is = names.got_is ∙ digest_below-padded new content path level is whole;
     }
+
+-- digests that are at hand are those of the levels, that of the content for the cleared block
+pub digests_at_hand : (new content : List ℕ) (path digests : List (List ℕ)) → new ≡ padded content → length new ≡ 4096
+    → digests ≡ block_digest content ∷ map sha256 path → (level : ℕ) → level ≤ length path → get_or digests level [] ≡ digest_below new path level
+digests_at_hand new content path digests is whole all zero h =
+    ap (λ (xs : List (List ℕ)). get_or xs 0 []) all ∙ sym (digest_below-padded new content path 0 is whole)
+digests_at_hand new content path digests is whole all (suc level) h =
+    ap (λ (xs : List (List ℕ)). get_or xs (suc level) []) all ∙ get_or-map sha256 path level [] [] (omega arith)

@@ -1,7 +1,7 @@
 // The one maker of checked blocks.
 ghost use Rattle.std.specs.Prelude.{◌≡◌, ◌<◌, false, ◌∷◌, length, map, OnOk, IfOk, IfErr};
 ghost use Rattle.inc_tree.specs.shape.Geometry.{data_blocks, depth};
-ghost use Rattle.inc_tree.specs.read_block.Path.{IsProof, NamesBreak, padded};
+ghost use Rattle.inc_tree.specs.read_block.Path.{IsProof, NamesBreak, block_digest};
 ghost use Rattle.inc_tree.specs.read_block.Verified.{IsMadeOf, content_at};
 ghost use Rattle.sha2.specs.Sha256.{sha256};
 
@@ -40,8 +40,8 @@ pub fn verify(
     })
 }
 
-/// The same where the digests are at hand, that of the block first and then those of its path from the leaf level upwards: nothing is
-/// hashed. The block has its zeros. It takes no memory.
+/// The same where the digests are at hand, that of the block as it is hashed and then those of its path from the leaf level upwards:
+/// nothing is hashed. It takes no memory.
 pub fn verify_digested(
     root: &Digest32,
     tree: &Geometry,
@@ -53,19 +53,20 @@ pub fn verify_digested(
     requires tree { tree.now.flat ≡ false }
     requires here { index < data_blocks tree.now }
     requires full { length path ≡ depth tree.now }
-    requires zeros { bytes ≡ padded (content_at tree.now index bytes) }
-    requires digested { digests.now ≡ map sha256 (bytes ∷ path) }
+    requires digested { digests.now ≡ block_digest (content_at tree.now index bytes) ∷ map sha256 path }
     ensures made { IfOk result (λ block. IsMadeOf root.now tree.now index bytes path block) }
     ensures ok { OnOk result (IsProof root.now tree.now index (content_at tree.now index bytes) path) }
     ensures broken { IfErr result (λ broken.
         NamesBreak root.now index (content_at tree.now index bytes) path broken.level broken.wanted broken.got) }
 {
     let len = tree.block_len(index);
+    let mut cleared = bytes;
+    cleared.clear_from(len);
     compare_levels(
         root,
         tree,
         index,
-        bytes.as_slice(),
+        cleared.as_slice(),
         path.as_slice(),
         digests,
     )?;
@@ -74,7 +75,7 @@ pub fn verify_digested(
         geometry: *tree,
         index,
         len,
-        bytes,
+        bytes: cleared,
         path,
         made: Made,
     })
