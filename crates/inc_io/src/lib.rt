@@ -20,7 +20,7 @@ pub use bytes::Bytes;
 pub use failed::{Failed, LendFault};
 pub use memory::{MemFile, MemSink, MemSource, Schedule, copy_part};
 pub use name::{Name, NameList, has_name, remove_name};
-pub use outside::{Backing, ReadShelf, Sink, Source};
+pub use outside::{Backing, ReadShelf, Sink, Source, write_all};
 pub use threads::{Bell, Clock, Gate, MemBell, OpenGate, StepClock};
 
 /// The one answer that no clause ties to a cause: the allocator refused.

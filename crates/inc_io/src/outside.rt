@@ -7,5 +7,5 @@ mod source;
 
 pub use backing::Backing;
 pub use shelf::ReadShelf;
-pub use sink::Sink;
+pub use sink::{Sink, write_all};
 pub use source::Source;

@@ -9,7 +9,10 @@ mod bell;
 mod clock;
 mod disk;
 mod file;
+mod file_sink;
+mod file_source;
 mod folder;
+mod null_sink;
 mod sink;
 mod source;
 
@@ -17,7 +20,10 @@ pub use bell::RealBell;
 pub use clock::RealClock;
 pub use disk::RealDisk;
 pub use file::{FileCall, PlacedFile};
+pub use file_sink::FileSink;
+pub use file_source::FileSource;
 pub use folder::FolderShelf;
+pub use null_sink::NullSink;
 pub use sink::StdSink;
 pub use source::StdSource;
 

@@ -1,11 +1,14 @@
 ghost use Rattle.std.specs.Prelude.{◌≡◌, Some};
 
-use crate::{FileCall, FolderShelf, PlacedFile, RealBell, RealDisk};
+use crate::{
+    FileCall, FileSink, FileSource, FolderShelf, NullSink, PlacedFile, RealBell, RealDisk,
+};
 use inc_disk::{Disk, Shelf};
-use inc_io::{Backing, Bell, Bytes, Failed, LendFault, Name, ReadShelf};
+use inc_io::{Backing, Bell, Bytes, Failed, LendFault, Name, ReadShelf, Sink, Source};
 use std::alloc::Global;
 use std::fs::File;
 use std::io::ErrorKind;
+use std::os::fd::AsRawFd;
 use std::test::Fail;
 use std::{fs, io};
 
@@ -200,5 +203,52 @@ fn nobody_rests_past_a_ring_or_past_the_time(rt: HostRuntime) -> Result<(), Fail
     bell.ring();
     bell.rest(seen, u64::MAX);
     assert_eq!(rt; bell.seen(), 1);
+    Ok(())
+}
+
+/// What is written stands in the file before the sink is gone.
+#[test]
+fn a_file_source_reads_what_a_file_sink_wrote(rt: HostRuntime) -> Result<(), Fail> {
+    let path = "inc-real-stream";
+    let mut sink = FileSink::create(&rt, path);
+    let mut source = FileSource::open(&rt, path);
+    let mut room = [0; 8];
+    assert_eq!(rt; sink.write(b"bytes"), Ok(5));
+    assert_eq!(rt; source.read(&mut room), Ok(5));
+    assert!(rt; &room[..5] == b"bytes".as_slice());
+    assert_eq!(rt; source.read(&mut room), Ok(0));
+    fs::remove_file(&rt, path)?;
+    Ok(())
+}
+
+#[test]
+fn a_pipe_is_read_by_its_path_while_it_is_written(rt: HostRuntime) -> Result<(), Fail> {
+    let (reader, writer) = io::pipe(&rt)?;
+    let from = format!(in rt.alloc(); "/proc/self/fd/{}", reader.as_raw_fd())?;
+    let to = format!(in rt.alloc(); "/proc/self/fd/{}", writer.as_raw_fd())?;
+    let mut sink = FileSink::create(&rt, to.as_str());
+    let mut source = FileSource::open(&rt, from.as_str());
+    drop(writer);
+    let mut room = [0; 8];
+    assert_eq!(rt; sink.write(b"first"), Ok(5));
+    assert_eq!(rt; source.read(&mut room), Ok(5));
+    assert!(rt; &room[..5] == b"first".as_slice());
+    assert_eq!(rt; sink.write(b"then"), Ok(4));
+    drop(sink);
+    assert_eq!(rt; source.read(&mut room), Ok(4));
+    assert_eq!(rt; source.read(&mut room), Ok(0));
+    Ok(())
+}
+
+#[test]
+fn a_path_that_isnt_there_fails_at_each_call(rt: HostRuntime) -> Result<(), Fail> {
+    let mut source = FileSource::open(&rt, "inc-real-nowhere/stream");
+    let mut sink = FileSink::create(&rt, "inc-real-nowhere/requests");
+    let mut room = [0; 8];
+    assert_eq!(rt; source.read(&mut room), Err(Failed));
+    assert_eq!(rt; source.read(&mut room), Err(Failed));
+    assert_eq!(rt; sink.write(b"bytes"), Err(Failed));
+    assert_eq!(rt; sink.write(b"bytes"), Err(Failed));
+    assert_eq!(rt; NullSink::new().write(b"bytes"), Ok(5));
     Ok(())
 }
