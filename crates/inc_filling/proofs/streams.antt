@@ -1,3 +1,4 @@
+pub mod Generated
 pub mod GroupIn
 pub mod GroupStops
 pub mod Outcomes

@@ -1,6 +1,7 @@
 pub mod Contents
 pub mod Fillable
 pub mod Filled
+pub mod Generated
 pub mod Grouped
 pub mod Pieces
 pub mod Refusals

@@ -7,6 +7,7 @@ mod group;
 mod padded_piece;
 
 use crate::OutOfMemory;
+pub use group::join_fillings;
 use inc_cell::{Digested, FileCell};
 use inc_disk::Disk;
 use inc_frame::Piece;

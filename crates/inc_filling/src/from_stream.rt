@@ -1,8 +1,8 @@
 // A stream's pieces go into a file, group by group.
 mod filled;
 mod gathering;
-mod rounds;
-mod waiting;
+pub mod rounds;
+pub mod waiting;
 
 ghost use Rattle.std.specs.Prelude.{◌≡◌, ℕ, List, Some};
 ghost use Rattle.inc_frame.specs.Fronts.{stream_front};
@@ -15,7 +15,7 @@ use inc_disk::Disk;
 use inc_io::Source;
 use inc_loader::PieceReader;
 use inc_model::Window;
-use rounds::{Totals, fill_round};
+use rounds::{FillTotals, fill_round};
 use std::alloc::Global;
 use waiting::Waiting;
 
@@ -51,7 +51,7 @@ fn fill_groups<D: Disk, I: Source>(
 {
     let mut pieces = PieceReader::new(alloc)?;
     let mut waiting = Waiting::new(alloc)?;
-    let mut totals = Totals {
+    let mut totals = FillTotals {
         written: 0,
         present: 0,
     };

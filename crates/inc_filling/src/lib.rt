@@ -7,10 +7,13 @@
 //!
 //! A stream is filled in group by group as it is read ([`fill_from`]). Whatever ends it, a piece that the file doesn't take, its fault, its end or a
 //! fault of its source, the pieces before that go in first.
+//!
+//! A generated content is filled in likewise ([`fill_generated`]): its hash blocks are held, and of its data blocks no more than a group.
 #![tactic(auto)]
 
 mod filling;
 mod from_stream;
+mod generated;
 mod group;
 mod laws;
 mod pieces;
@@ -18,10 +21,12 @@ mod refusal;
 mod stop;
 mod window;
 
-pub use filling::Filling;
+pub use filling::{Filling, join_fillings};
+pub use from_stream::rounds::FillTotals;
 pub use from_stream::{FillEnd, FillFailure, Filled, fill_from};
+pub use generated::fill_generated;
 pub use group::{MOST_BLOCKS_OF_GROUP, fill_group};
-pub use laws::new_cells_are_fillable;
+pub use laws::{new_cells_are_fillable, new_files_take_contents};
 pub use pieces::fill_pieces;
 pub use refusal::{PieceRefusal, piece_refusal};
 pub use stop::FillStop;

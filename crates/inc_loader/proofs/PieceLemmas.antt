@@ -20,11 +20,11 @@ use Rattle.inc_loader.proofs.ContentLemmas.{length-generated_content}
 hash_at : LoaderFile → List (List ℕ) → ℕ → Piece
 hash_at file area k = plain_piece file true k (get_or area k [])
 
-length-hash_pieces : (file : LoaderFile) (area : List (List ℕ)) → length (hash_pieces file area) ≡ length area
+pub length-hash_pieces : (file : LoaderFile) (area : List (List ℕ)) → length (hash_pieces file area) ≡ length area
 unfolding hash_pieces
 length-hash_pieces file area = length-map-range_with_len (λ k. plain_piece file true k (get_or area k [])) 0 (length area)
 
-length-data_pieces : (file : LoaderFile) (content : List ℕ) → length (data_pieces file content) ≡ blocks_of (length content)
+pub length-data_pieces : (file : LoaderFile) (content : List ℕ) → length (data_pieces file content) ≡ blocks_of (length content)
 unfolding data_pieces
 length-data_pieces file content = length-map-range_with_len (λ k. plain_piece file false k (content_block content k)) 0 (blocks_of (length content))
 
@@ -64,11 +64,11 @@ among_blocks file number size next some =
 pub few_blocks : (file : LoaderFile) (number size next : ℕ) → size ≤ most_size → eqb (length (drop next (pieces_of file (generated_content number size)))) 0 ≡ false → next < 2 ^ 23
 few_blocks file number size next small some = omega (arith, among_blocks file number size next some, hash_small (tree_of size) small)
 
-hash_in : (file : LoaderFile) (area : List (List ℕ)) (k : ℕ) (d : Piece) → k < length area → get_or (hash_pieces file area) k d ≡ plain_piece file true k (get_or area k [])
+pub hash_in : (file : LoaderFile) (area : List (List ℕ)) (k : ℕ) (d : Piece) → k < length area → get_or (hash_pieces file area) k d ≡ plain_piece file true k (get_or area k [])
 unfolding hash_pieces
 hash_in file area k d lt = get_or-map-range_with_len (λ i. plain_piece file true i (get_or area i [])) 0 (length area) k k d lt (omega arith)
 
-data_in : (file : LoaderFile) (content : List ℕ) (k : ℕ) (d : Piece) → k < blocks_of (length content) → get_or (data_pieces file content) k d ≡ plain_piece file false k (content_block content k)
+pub data_in : (file : LoaderFile) (content : List ℕ) (k : ℕ) (d : Piece) → k < blocks_of (length content) → get_or (data_pieces file content) k d ≡ plain_piece file false k (content_block content k)
 unfolding data_pieces
 data_in file content k d lt = get_or-map-range_with_len (λ i. plain_piece file false i (content_block content i)) 0 (blocks_of (length content)) k k d lt (omega arith)
 

@@ -1,22 +1,12 @@
--- Bytes that go out piece by piece.
-use Rattle.std.proofs.Common.{◌≡◌, ℕ, Bool, true, false, List, [], ◌++◌, take, drop, Option, Some, None, refl, ap, sym, subst, ◌∙◌, append_assoc, append-nil}
+-- Bytes that go out one after another.
+use Rattle.std.proofs.Common.{◌≡◌, ℕ, Bool, true, false, List, [], ◌++◌, Option, Some, None, refl, ap, sym, subst, ◌∙◌, append_assoc, append-nil}
 use Rattle.std.specs.List.{flat_map}
-use Rattle.std.specs.Prelude.{option_map}
-use Rattle.std.proofs.lemmas.List.{take-append-drop, nil_from_length}
+use Rattle.std.proofs.lemmas.List.{nil_from_length}
 use Rattle.std.proofs.Common.{length}
 use Rattle.inc_frame.specs.Frames.{end_bytes}
 use Rattle.inc_frame.specs.Requests.{request_hello_bytes, request_stream, request_stream2}
 use Rattle.inc_pending.specs.declared.pending_record.PendingRecord.{PendingRecord}
 use Rattle.inc_loader.specs.Sent.{HasRequests, begun_requests, greeting_of, hello_of, request_of, requests_of, sent_after}
-
--- what a sink has once the rest is out is what it has once the whole is out
-pub sent_step : (had after : Option (List ℕ)) (rest : List ℕ) (count : ℕ) → after ≡ option_map (λ bytes. bytes ++ take count rest) had
-    → sent_after after (drop count rest) ≡ sent_after had rest
-sent_step had after rest count is = ap (λ (now : Option (List ℕ)). sent_after now (drop count rest)) is ∙ joined had
-  where
-    joined : (b : Option (List ℕ)) → sent_after (option_map (λ bytes. bytes ++ take count rest) b) (drop count rest) ≡ sent_after b rest
-    joined None = refl
-    joined (Some bytes) = ap (λ x. Some x) (append_assoc bytes (take count rest) (drop count rest) ∙ ap (λ (x : List ℕ). bytes ++ x) (take-append-drop count rest))
 
 pub sent_all : (had : Option (List ℕ)) (rest : List ℕ) → length rest ≡ 0 → sent_after had rest ≡ had
 sent_all had rest none = ap (sent_after had) (nil_from_length rest none) ∙ nothing had

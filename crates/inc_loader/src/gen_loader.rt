@@ -14,6 +14,7 @@ mod tests;
 use crate::held::Held;
 use crate::{Given, Loader, LoaderFile, LoaderTurn, OutOfMemory};
 use content_queue::ContentQueue;
+pub use file_in_work::FileInWork;
 use inc_frame::PieceList;
 use inc_pending::PendingRecord;
 use std::alloc::Global;

@@ -10,7 +10,6 @@ mod held;
 mod loader;
 mod loader_file;
 mod mark;
-mod send;
 mod stream;
 #[cfg(test)]
 mod tests;
@@ -18,7 +17,7 @@ mod turn;
 mod whole;
 
 pub use fake::FakeLoader;
-pub use gen_loader::GenLoader;
+pub use gen_loader::{FileInWork, GenLoader};
 pub use loader::Loader;
 pub use loader_file::{FileList, LoaderFile};
 pub use mark::PieceMark;

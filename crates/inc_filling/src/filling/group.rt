@@ -29,12 +29,16 @@ impl Filling {
             blocks.push(padded.block)?;
         }
         let hashed = Digested::group(alloc, blocks, lens.as_slice())?;
-        join(alloc, indices.as_slice(), hashed)
+        join_fillings(alloc, indices.as_slice(), hashed)
     }
 }
 
-/// Joins each index with its block.
-fn join(alloc: Global, indices: &[u32], blocks: Vec<Digested>) -> Result<Vec<Filling>, OutOfMemory>
+/// Joins each index with its block, which were hashed together: a group in the order of both lists.
+pub fn join_fillings(
+    alloc: Global,
+    indices: &[u32],
+    blocks: Vec<Digested>,
+) -> Result<Vec<Filling>, OutOfMemory>
     requires each { length blocks.items ≡ length indices.now }
     ensures value { IfOk result (λ group. group.items ≡ fillings_joined indices.now blocks.items) }
 {

@@ -18,7 +18,7 @@ use std::alloc::Global;
 
 /// How many pieces went in.
 #[derive(Clone, Copy)]
-pub struct Totals {
+pub struct FillTotals {
     pub written: u64,
     pub present: u64,
 }
@@ -31,7 +31,7 @@ pub(crate) fn fill_round<D: Disk, I: Source>(
     input: &mut I,
     pieces: &mut PieceReader,
     waiting: &mut Waiting,
-    totals: &mut Totals,
+    totals: &mut FillTotals,
 ) -> Result<Option<FillEnd>, FillFailure>
     requires fillable { IsFillable cell.old }
     requires empty { waiting.old.pieces.items ≡ [] }
@@ -70,12 +70,12 @@ fn outcome(
 }
 
 /// Fills in what waits, as one group.
-fn fill_waiting<D: Disk>(
+pub(crate) fn fill_waiting<D: Disk>(
     alloc: Global,
     cell: &mut FileCell<D>,
     window: Window,
     waiting: &mut Waiting,
-    totals: &mut Totals,
+    totals: &mut FillTotals,
 ) -> Result<(), FillStop>
     requires fillable { IsFillable cell.old }
     requires may { MayWait cell.old.opened waiting.old.pieces.items }

@@ -4,10 +4,10 @@ ghost use Rattle.std.specs.List.{range_with_len};
 ghost use Rattle.inc_loader.specs.Content.{generated_byte, generated_content};
 ghost use Rattle.inc_tree.specs.shape.Geometry.{data_blocks};
 ghost use Rattle.inc_tree.specs.read_block.Path.{block_digest};
-ghost use Rattle.inc_tree.specs.content_tree.Root.{area_of, content_block};
+ghost use Rattle.inc_tree.specs.content_tree.Root.{area_of, content_block, root_of};
 
 use crate::OutOfMemory;
-use inc_tree::{BLOCK_SIZE, Digest32, Geometry, HashLevel, Path, Tree, digest_block, tree_over};
+use inc_tree::{BLOCK_SIZE, Digest32, Geometry, HashLevel, Tree, digest_block, tree_over};
 use std::alloc::Global;
 
 // Fills the room with the bytes from the start of a block on.
@@ -50,15 +50,20 @@ fn leaf_digest(number: u64, geometry: &Geometry, index: u32, room: &mut [u8]) ->
     digest_block(block)
 }
 
-// The hash blocks of the content of this shape's size.
-pub(crate) fn hash_area(alloc: Global, number: u64, geometry: Geometry) -> Result<Path, OutOfMemory>
-    ensures value { IfOk result (λ area. area ≡ area_of (generated_content number geometry.size)) }
+// The tree of the content of this shape's size. Each of its blocks is made and hashed once.
+pub(crate) fn generated_tree(
+    alloc: Global,
+    number: u64,
+    geometry: Geometry,
+) -> Result<Tree, OutOfMemory>
+    ensures root { IfOk result (λ tree. tree.root ≡ root_of (generated_content number geometry.size)) }
+    ensures area { IfOk result (λ tree. tree.hash_blocks ≡ area_of (generated_content number geometry.size)) }
 {
     let mut leaves = HashLevel::new(alloc);
     let mut room = vec![in alloc; 0; BLOCK_SIZE]?;
     for index in 0..geometry.data_blocks() {
         leaves.push(&leaf_digest(number, &geometry, index, &mut room))?;
     }
-    let Tree { hash_blocks, .. } = tree_over(geometry, leaves)?;
-    Ok(hash_blocks)
+    let tree = tree_over(geometry, leaves)?;
+    Ok(tree)
 }

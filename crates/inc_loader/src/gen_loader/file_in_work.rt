@@ -1,17 +1,20 @@
-// The file whose pieces are given now.
+// The pieces of one file of a generated content, one after another.
 ghost use Rattle.std.specs.Prelude.{◌≡◌, ◌≤◌};
 ghost use Rattle.inc_loader.specs.Content.{generated_content};
 ghost use Rattle.inc_tree.specs.shape.Geometry.{tree_of};
 ghost use Rattle.inc_tree.specs.shape.Limits.{most_size};
-ghost use Rattle.inc_tree.specs.content_tree.Root.{area_of};
+ghost use Rattle.inc_tree.specs.content_tree.Root.{area_of, root_of};
 
-use super::content::{block_bytes, hash_area};
+use super::content::{block_bytes, generated_tree};
 use crate::{LoaderFile, OutOfMemory};
+use inc_bytes::Id;
 use inc_frame::Piece;
 use inc_io::Bytes;
-use inc_tree::{Geometry, Path};
+use inc_tree::{Digest32, Geometry, Path, Tree};
 use std::alloc::Global;
 
+/// A file's pieces that are still to be given: its hash blocks, which are held, and then its data blocks, each of which is made when it is
+/// asked for.
 #[derive(Drop)]
 pub struct FileInWork {
     number: u64,
@@ -41,13 +44,47 @@ impl FileInWork {
         ensures value { IfOk result (λ work. left_of work ≡ pieces_of file (generated_content number file.size)) }
     {
         let geometry = Geometry::of(file.size).unwrap();
+        let Tree { hash_blocks, .. } = generated_tree(alloc, number, geometry)?;
         Ok(FileInWork {
             number,
             file,
             geometry,
-            hash_blocks: hash_area(alloc, number, geometry)?,
+            hash_blocks,
             next: 0,
         })
+    }
+
+    /// All pieces of a new file with the content of this number. The content is hashed once, for its root and its hash blocks.
+    pub fn generated(
+        alloc: Global,
+        number: u64,
+        id: Id,
+        size: u64,
+    ) -> Result<FileInWork, OutOfMemory>
+        requires { size ≤ most_size }
+        ensures file { IfOk result (λ work. work.file ≡ record { id = id; size = size; root = root_of (generated_content number size) }) }
+        ensures value { IfOk result (λ work. left_of work ≡ pieces_of work.file (generated_content number size)) }
+    {
+        let geometry = Geometry::of(size).unwrap();
+        let Tree {
+            root,
+            hash_blocks,
+            ..
+        } = generated_tree(alloc, number, geometry)?;
+        Ok(FileInWork {
+            number,
+            file: LoaderFile { id, size, root },
+            geometry,
+            hash_blocks,
+            next: 0,
+        })
+    }
+
+    /// The root that the file has been given.
+    pub fn root(&self) -> Digest32
+        ensures value { result ≡ self.now.file.root }
+    {
+        self.file.root
     }
 
     fn piece_count(&self) -> u32
@@ -57,14 +94,15 @@ impl FileInWork {
         self.geometry.hash_blocks() + self.geometry.data_blocks()
     }
 
-    pub(crate) fn is_given(&self) -> bool
+    /// Whether nothing is left.
+    pub fn is_given(&self) -> bool
         ensures value { result ≡ (length (left_of self.now) == 0) }
     {
         self.next >= self.piece_count()
     }
 
-    // The next piece.
-    pub(crate) fn piece(&self, alloc: Global) -> Result<Piece, OutOfMemory>
+    /// The next piece.
+    pub fn piece(&self, alloc: Global) -> Result<Piece, OutOfMemory>
         requires { (length (left_of self.now) == 0) ≡ false }
         ensures first { IfOk result (λ piece. left_of self.now ≡ piece ∷ drop 1 (left_of self.now)) }
     {
@@ -78,8 +116,8 @@ impl FileInWork {
         Ok(self.piece_of(false, index, bytes))
     }
 
-    // The next piece was given.
-    pub(crate) fn pass(&mut self)
+    /// The next piece was given.
+    pub fn pass(&mut self)
         requires { (length (left_of self.old) == 0) ≡ false }
         ensures left { left_of self.new ≡ drop 1 (left_of self.old) }
     {

@@ -4,9 +4,8 @@ ghost use Rattle.inc_frame.specs.Frames.{end_bytes};
 ghost use Rattle.inc_io.specs.Causes.{HasCause};
 ghost use Rattle.inc_loader.specs.Sent.{greeting_of, request_of, sent_after};
 
-use crate::send::send;
 use inc_frame::{request_hello, request_hello2, write_request, write_request2, write_stop};
-use inc_io::{Failed, Sink};
+use inc_io::{Failed, Sink, write_all};
 use inc_pending::PendingRecord;
 
 #[derive(Drop)]
@@ -34,7 +33,7 @@ impl<O: Sink + Drop> Outlet<O> {
         } else {
             request_hello()
         };
-        send(&mut self.out, &hello)?;
+        write_all(&mut self.out, &hello)?;
         self.greeted = true;
         Ok(())
     }
@@ -48,9 +47,9 @@ impl<O: Sink + Drop> Outlet<O> {
     {
         self.greet()?;
         if self.second {
-            send(&mut self.out, &write_request2(read))
+            write_all(&mut self.out, &write_request2(read))
         } else {
-            send(&mut self.out, &write_request(read))
+            write_all(&mut self.out, &write_request(read))
         }
     }
 
@@ -62,6 +61,6 @@ impl<O: Sink + Drop> Outlet<O> {
         ensures cause { HasCause (O.faults self.old.out) (O.faults self.new.out) result }
     {
         self.greet()?;
-        send(&mut self.out, &write_stop())
+        write_all(&mut self.out, &write_stop())
     }
 }

@@ -20,8 +20,8 @@ group-requires g c =
       most = subst (λ (l : List ℕ). (i : ℕ) → i < length l → get_or l i 0 ≤ 4096) (sym lens) (lens_small opened pieces);
     }
 
-pub join-requires : goal.join-requires
-join-requires g c =
+pub join_fillings-requires : goal.join_fillings-requires
+join_fillings-requires g c =
     let opened = c.args.cell.now.opened in
     let pieces = c.args.pieces.now in
     let whole = take_all c.loop-at.at pieces c.loop-at-test.false in
@@ -46,6 +46,6 @@ returns g c =
     let joined : fillings_joined c.as_slice-2.result.now c.in_ok-hashed.hashed.items ≡ fillings_joined (map (index_of_piece opened) pieces) (digested_each (map (block_of_piece opened) pieces) (map (len_of_piece opened) pieces)) =
     ap (λ (l : List ℕ). fillings_joined l c.in_ok-hashed.hashed.items) indices ∙ ap (fillings_joined (map (index_of_piece opened) pieces)) hashed in
     record {
-      stores = store_if opened pieces (λ group. group.items) (fillings_joined (map (index_of_piece opened) pieces) (digested_each (map (block_of_piece opened) pieces) (map (len_of_piece opened) pieces))) (joined_store opened pieces c.requires.taken) c.join.result
-          (subst (λ (wanted : List Filling). IfOk c.join.result (λ group. group.items ≡ wanted)) joined c.join.ensures.value);
+      stores = store_if opened pieces (λ group. group.items) (fillings_joined (map (index_of_piece opened) pieces) (digested_each (map (block_of_piece opened) pieces) (map (len_of_piece opened) pieces))) (joined_store opened pieces c.requires.taken) c.join_fillings.result
+          (subst (λ (wanted : List Filling). IfOk c.join_fillings.result (λ group. group.items ≡ wanted)) joined c.join_fillings.ensures.value);
     }

@@ -7,7 +7,7 @@ use Rattle.inc_tree.specs.read_block.Path.{block_digest}
 use Rattle.inc_tree.specs.content_tree.Root.{content_block, leaf_digests}
 use Rattle.inc_loader.specs.Content.{generated_content}
 use Rattle.inc_loader.proofs.ContentLemmas.{length-generated_content}
-use Rattle.inc_loader.proofs.gen_loader.content.hash_area.Goals as goal
+use Rattle.inc_loader.proofs.gen_loader.content.generated_tree.Goals as goal
 
 pub push-requires : goal.push-requires
 push-requires c = record {
@@ -35,7 +35,9 @@ returns c =
     let content : List ℕ = generated_content c.args.number c.args.geometry.size in
     let count : c.loop-index.index ≡ blocks_of (length content) =
     omega (arith, c.data_blocks-index-end.ensures.value, ap blocks_of (length-generated_content c.args.number c.args.geometry.size), c.loop-index.auto.index-end, c.loop-index-test.false) in
+    let kept : KeepsDigests (leaf_digests content) c.loop-index.leaves =
+    subst (λ (n : ℕ). KeepsDigests (map (λ i. block_digest (content_block content i)) (range_with_len 0 n)) c.loop-index.leaves) count c.loop-index.invariant.digests in
     record {
-      value = c.in_ok-hash_blocks.ensures.area (leaf_digests content)
-          (subst (λ (n : ℕ). KeepsDigests (map (λ i. block_digest (content_block content i)) (range_with_len 0 n)) c.loop-index.leaves) count c.loop-index.invariant.digests);
+      root = c.in_ok-tree.ensures.root (leaf_digests content) kept;
+      area = c.in_ok-tree.ensures.area (leaf_digests content) kept;
     }

@@ -4,7 +4,7 @@ use Rattle.inc_tree.specs.content_tree.HashLevel.{KeepsDigests}
 use Rattle.inc_tree.specs.read_block.Path.{block_digest}
 use Rattle.inc_tree.specs.content_tree.Root.{content_block}
 use Rattle.inc_loader.specs.Content.{generated_content}
-use Rattle.inc_loader.proofs.gen_loader.content.hash_area.Given as goal
+use Rattle.inc_loader.proofs.gen_loader.content.generated_tree.Given as goal
 
 abbrev pub invariant-loop-index : goal.invariant-loop-index
 invariant-loop-index l = record {

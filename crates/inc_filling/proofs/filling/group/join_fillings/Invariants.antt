@@ -1,7 +1,7 @@
 use Rattle.std.proofs.Common.{◌≡◌, length, map, take, vec_len}
 use Rattle.std.specs.List.{zip}
 use Rattle.inc_filling.proofs.lemmas.HashLemmas.{filling_of}
-use Rattle.inc_filling.proofs.filling.group.join.Given as goal
+use Rattle.inc_filling.proofs.filling.group.join_fillings.Given as goal
 
 abbrev pub invariant-loop-block : goal.invariant-loop-block
 invariant-loop-block l = record {

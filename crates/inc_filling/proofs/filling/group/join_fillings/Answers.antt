@@ -5,7 +5,7 @@ use Rattle.std.proofs.lemmas.Iterator.Consumers.{YieldsList-end, YieldsList-turn
 use Rattle.std.proofs.lemmas.List.{length_push}
 use Rattle.inc_filling.specs.declared.filling.Filling.{Filling}
 use Rattle.inc_filling.proofs.lemmas.HashLemmas.{filling_of, joined_more, joined_whole}
-use Rattle.inc_filling.proofs.filling.group.join.Goals as goal
+use Rattle.inc_filling.proofs.filling.group.join_fillings.Goals as goal
 
 pub loop-block-preserved : goal.loop-block-preserved
 loop-block-preserved c =
