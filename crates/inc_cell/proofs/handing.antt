@@ -1,4 +1,5 @@
 -- What a poll reads and hands out.
+pub mod EarlyLemmas
 pub mod GroupLemmas
 pub mod HandLemmas
 pub mod PollLemmas

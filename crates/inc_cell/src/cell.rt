@@ -19,6 +19,7 @@ ghost use Rattle.inc_cell.specs.laws.Runs.{CellRuns};
 ghost use Rattle.inc_cell.specs.seen.Seen.{state_now, tells};
 ghost use Rattle.inc_cell.specs.seen.Standing.{ReadsAs};
 
+mod early;
 mod piece;
 mod polls;
 
@@ -169,6 +170,8 @@ impl<D: Disk> FileCell<D> {
         requires own { IsOwn who (window_of event) }
         requires quiet { IsQuietEvent event }
         ensures steps { CellSteps self.old who event [] result self.new }
+        ensures count { self.new.count ≡ self.old.count }
+        ensures early { result.early ≡ None }
     {
         let at = self.book.len();
         if let Some((entries, claimed)) = self.book.full_for(event) {
@@ -183,6 +186,8 @@ impl<D: Disk> FileCell<D> {
     /// Begins a read of a data block.
     pub fn ask(&mut self, who: u32, block: u32, uid: u32, now: u64) -> Answer
         ensures steps { CellSteps self.old who (Ask block uid now) [] result self.new }
+        ensures count { self.new.count ≡ self.old.count }
+        ensures early { result.early ≡ None }
     {
         self.enter_quiet(who, Event::Ask { block, uid, now })
     }
@@ -190,6 +195,7 @@ impl<D: Disk> FileCell<D> {
     /// Gives a read up.
     pub fn cancel(&mut self, who: u32, serial: u32) -> Answer
         ensures steps { CellSteps self.old who (Cancel serial) [] result self.new }
+        ensures early { result.early ≡ None }
     {
         self.enter_quiet(who, Event::Cancel { serial })
     }
@@ -198,6 +204,7 @@ impl<D: Disk> FileCell<D> {
     pub fn claim(&mut self, who: u32, window: Window, places: u32) -> Answer
         requires own { window.who ≡ who }
         ensures steps { CellSteps self.old who (Claim window places) [] result self.new }
+        ensures early { result.early ≡ None }
     {
         self.enter_quiet(who, Event::Claim { window, places })
     }
@@ -206,6 +213,7 @@ impl<D: Disk> FileCell<D> {
     pub fn release(&mut self, who: u32, window: Window) -> Answer
         requires own { window.who ≡ who }
         ensures steps { CellSteps self.old who (Release window) [] result self.new }
+        ensures early { result.early ≡ None }
     {
         self.enter_quiet(who, Event::Release { window })
     }
@@ -213,6 +221,7 @@ impl<D: Disk> FileCell<D> {
     /// Tells the reads that wait with a greater serial, rising, the first `max`.
     pub fn take_pending(&mut self, who: u32, after: u32, max: u32) -> Answer
         ensures steps { CellSteps self.old who (TakePending after max) [] result self.new }
+        ensures early { result.early ≡ None }
     {
         self.enter_quiet(who, Event::TakePending { after, max })
     }
@@ -220,6 +229,7 @@ impl<D: Disk> FileCell<D> {
     /// Sets the times of a user.
     pub fn set_times(&mut self, who: u32, uid: u32, t: Times) -> Answer
         ensures steps { CellSteps self.old who (SetTimes uid t) [] result self.new }
+        ensures early { result.early ≡ None }
     {
         self.enter_quiet(who, Event::SetTimes { uid, t })
     }
@@ -227,6 +237,7 @@ impl<D: Disk> FileCell<D> {
     /// Tells the first `room` runs of filled indices between two bounds.
     pub fn ranges(&mut self, who: u32, start: u32, end: u32, room: u32) -> Answer
         ensures steps { CellSteps self.old who (Ranges start end room) [] result self.new }
+        ensures early { result.early ≡ None }
     {
         self.enter_quiet(who, Event::Ranges { start, end, room })
     }
@@ -234,6 +245,7 @@ impl<D: Disk> FileCell<D> {
     /// Tells how many data blocks and how many hash blocks are there.
     pub fn count(&mut self, who: u32) -> Answer
         ensures steps { CellSteps self.old who Count [] result self.new }
+        ensures early { result.early ≡ None }
     {
         self.enter_quiet(who, Event::Count)
     }
@@ -241,6 +253,7 @@ impl<D: Disk> FileCell<D> {
     /// One reader fewer.
     pub fn leave(&mut self, who: u32) -> Answer
         ensures steps { CellSteps self.old who Leave [] result self.new }
+        ensures early { result.early ≡ None }
     {
         self.enter_quiet(who, Event::Leave)
     }
@@ -249,6 +262,7 @@ impl<D: Disk> FileCell<D> {
     pub fn put_data(&mut self, who: u32, window: Window, index: u32, block: &Block) -> Answer
         requires own { window.who ≡ who }
         ensures steps { CellSteps self.old who (PutData window index (digest_for self.old.opened index block.now)) block.now result self.new }
+        ensures early { result.early ≡ None }
     {
         let digest = digest_for(&self.opened, index, block);
         self.put(who, window, index, digest, block)
@@ -258,6 +272,7 @@ impl<D: Disk> FileCell<D> {
     pub fn put_digested(&mut self, who: u32, window: Window, index: u32, block: &Digested) -> Answer
         requires own { window.who ≡ who }
         ensures steps { CellSteps self.old who (PutData window index (digest_for self.old.opened index block.now.bytes)) block.now.bytes result self.new }
+        ensures early { result.early ≡ None }
     {
         let digest = if block.len() == len_for(&self.opened, index) {
             block.digest()
@@ -279,6 +294,7 @@ impl<D: Disk> FileCell<D> {
         requires whole { length block.now ≡ 4096 }
         requires hashed { digest ≡ digest_for self.old.opened index block.now }
         ensures steps { CellSteps self.old who (PutData window index digest) block.now result self.new }
+        ensures early { result.early ≡ None }
     {
         let event = Event::PutData {
             window,
@@ -312,6 +328,7 @@ impl<D: Disk> FileCell<D> {
     pub fn put_place(&mut self, who: u32, window: Window, index: u32) -> Answer
         requires own { window.who ≡ who }
         ensures steps { CellSteps self.old who (PutPlace window index) [] result self.new }
+        ensures early { result.early ≡ None }
     {
         let event = Event::PutPlace { window, index };
         let at = self.book.len();
@@ -332,6 +349,7 @@ impl<D: Disk> FileCell<D> {
     pub fn settle(&mut self, who: u32, window: Window) -> Answer
         requires own { window.who ≡ who }
         ensures steps { CellSteps self.old who (Settle window) [] result self.new }
+        ensures early { result.early ≡ None }
     {
         let event = Event::Settle { window };
         let at = self.book.len();
@@ -351,6 +369,7 @@ impl<D: Disk> FileCell<D> {
     pub fn gate(&mut self, who: u32, window: Window, index: u32) -> Answer
         requires own { window.who ≡ who }
         ensures steps { CellSteps self.old who (Gate window index) [] result self.new }
+        ensures early { result.early ≡ None }
     {
         let event = Event::Gate { window, index };
         let at = self.book.len();
@@ -372,10 +391,12 @@ fn unhanded(at: u64, reply: CellReply) -> Answer
     ensures at { result.at ≡ at }
     ensures reply { result.reply ≡ reply }
     ensures handed { result.handed ≡ None }
+    ensures early { result.early ≡ None }
 {
     Answer {
         reply,
         at,
         handed: None,
+        early: None,
     }
 }

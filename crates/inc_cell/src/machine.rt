@@ -1,5 +1,5 @@
 // A cell under a lock: one event after another.
-ghost use Rattle.std.specs.Prelude.{[]};
+ghost use Rattle.std.specs.Prelude.{◌≡◌, [], None};
 ghost use Rattle.inc_cell.specs.events.Answers.{CellSteps};
 ghost use Rattle.inc_cell.specs.events.CellEvents.{PlainHands, PlainTakes};
 
@@ -45,9 +45,13 @@ impl<D: Disk> Machine for FileCell<D> {
                 index,
                 block,
             } => self.put_digested(who, window, index, &block),
-            CellEvent::PollKnown { serial, now, known } => {
-                self.poll_known(who, serial, now, known.as_slice())
-            }
+            CellEvent::AskEarly { block, uid, now } => self.ask_early(who, block, uid, now),
+            CellEvent::PollKnown {
+                serial,
+                now,
+                known,
+                hint,
+            } => self.poll_hinted(who, serial, now, known.as_slice(), hint.as_ref()),
             CellEvent::Plain(event) => step_plain(self, who, event),
         }
     }
@@ -62,6 +66,7 @@ fn step_plain<D: Disk>(cell: &mut FileCell<D>, who: u32, event: Event) -> Answer
     requires takes { PlainTakes who event }
     ensures steps { CellSteps cell.old who event [] result cell.new }
     ensures hands { PlainHands cell.old who event result }
+    ensures early { result.early ≡ None }
 {
     match event {
         Event::Ask { block, uid, now } => cell.ask(who, block, uid, now),

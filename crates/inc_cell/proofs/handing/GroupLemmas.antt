@@ -5,6 +5,7 @@ use Rattle.std.specs.List.{zip}
 use Rattle.std.proofs.Math.Seq.{take-append_seam, take-length}
 use Rattle.std.proofs.lemmas.List.{length-take-le, map_more, take-append-le}
 use Rattle.std.proofs.lemmas.Slice.Zip.{get_or-zip, length-zip}
+use Rattle.sha2.specs.Sha256.{sha256}
 use Rattle.inc_tree.specs.read_block.Path.{block_digest, padded}
 use Rattle.inc_cell.specs.device.Digested.{DigestedBlock, HasZeros, IsCleared, digested, digested_each}
 
@@ -25,11 +26,15 @@ cleared_zeros old new len le cleared =
     subst (λ (bytes : List ℕ). bytes ≡ padded (take len bytes)) (sym cleared.zeros) (ap padded (sym (front_left old len within)))
 
 -- it is digested as it was before
-cleared_digested : (old new : List ℕ) (len : ℕ) → len ≤ 4096 → IsCleared old len new → digested new len ≡ digested old len
+pub cleared_digested : (old new : List ℕ) (len : ℕ) → len ≤ 4096 → IsCleared old len new → digested new len ≡ digested old len
 cleared_digested old new len le cleared =
     let within : len ≤ length old = omega (arith, cleared.whole) in
     let front : take len new ≡ take len old = ap (take len) cleared.zeros ∙ front_left old len within in
     ap (λ (part : List ℕ). record { bytes = padded part; len = len; digest = block_digest part }) front
+
+-- what has the bytes of a hashed block has its digest
+pub hint_hashed : (bytes block digest : List ℕ) (len : ℕ) → digest ≡ block_digest (take len bytes) → bytes ≡ padded (take len bytes) → bytes ≡ block → digest ≡ sha256 block
+hint_hashed bytes block digest len hashed zeros same = hashed ∙ ap sha256 (sym zeros ∙ same)
 
 -- ---- all blocks
 

@@ -54,7 +54,7 @@ module _ (seen : Seen) (end : ℕ) (holds : CellHolds seen end) where
       let same = more.same in
       record { id_is = told.id_is ∙ sym same.0; root_is = told.root_is ∙ sym same.3; data_is = told.data_is ∙ sym same.1; hash_is = told.hash_is ∙ sym same.2 }
 
-  in_file : (i : ℕ) (digest : List ℕ) → lookup i (state_now seen).map ≡ Some digest → i < entries (area_places seen.opened.areas)
+  pub in_file : (i : ℕ) (digest : List ℕ) → lookup i (state_now seen).map ≡ Some digest → i < entries (area_places seen.opened.areas)
   in_file i digest e =
       let s : FileState = state_now seen in
       let content = is_state.data_is in

@@ -13,7 +13,7 @@ use Rattle.inc_model.specs.declared.words.reply.Entry.{Entry}
 use Rattle.inc_model.specs.declared.words.reply.Reply.{Reply}
 use Rattle.inc_model.specs.declared.words.reply.Reply.TheVariants.{Fault, Gated, NotYet, Placed, Put, Settled}
 use Rattle.inc_cell.specs.events.Answers.{CellReplies}
-use Rattle.inc_cell.specs.events.CellEvents.{CellMoves, block_in, event_of, footing_of}
+use Rattle.inc_cell.specs.events.CellEvents.{CellMoves, block_in, event_of, footing_of, event_left}
 use Rattle.inc_cell.specs.device.Device.{DeviceDoes, GateDoes, PlaceDoes, PutDoes, SettleDoes, device_done, device_failed}
 use Rattle.inc_cell.specs.seen.Seen.{Seen, spots_now, tells}
 use Rattle.inc_cell.specs.declared.words.answer.Answer.{Answer}
@@ -86,7 +86,7 @@ replies_grow old who event block (HistoryFull entries claimed) new full = nothin
 replies_grow old who event block OutOfMemory new wants = nothing who old new wants.same
 
 pub cell_grows : (old : Seen) (who : ℕ) (event : CellEvent) (answer : Answer) (new : Seen) → CellMoves old who event answer new → Grows who old.history new.history
-cell_grows old who event answer new moves = replies_grow old who (event_of old.opened event) (block_in event) answer.reply new moves.steps.reply_is
+cell_grows old who event answer new moves = replies_grow old who (event_of old.opened event) (block_in event) answer.reply (event_left event old new) moves.steps.reply_is
 
 -- ---- the footing stays
 
@@ -99,4 +99,4 @@ replies_stay old who event block (HistoryFull entries claimed) new full = ap foo
 replies_stay old who event block OutOfMemory new wants = ap footing_of wants.same
 
 pub cell_stays : (old : Seen) (who : ℕ) (event : CellEvent) (answer : Answer) (new : Seen) → CellMoves old who event answer new → footing_of new ≡ footing_of old
-cell_stays old who event answer new moves = replies_stay old who (event_of old.opened event) (block_in event) answer.reply new moves.steps.reply_is
+cell_stays old who event answer new moves = replies_stay old who (event_of old.opened event) (block_in event) answer.reply (event_left event old new) moves.steps.reply_is

@@ -1,5 +1,5 @@
 // A file's polls: what they read of the disk, and what they hand out.
-ghost use Rattle.std.specs.Prelude.{[]};
+ghost use Rattle.std.specs.Prelude.{◌≡◌, [], None};
 ghost use Rattle.inc_model.specs.declared.words.event.Event.TheVariants.{Poll};
 ghost use Rattle.inc_cell.specs.events.Answers.{CellSteps};
 ghost use Rattle.inc_cell.specs.device.Handed.{MayHand};
@@ -8,7 +8,7 @@ use crate::cell::{FileCell, unhanded};
 use crate::parts::ended::keep_read;
 use crate::parts::hand::{Handing, block_of, hand_out, is_waiting};
 use crate::parts::puts::spot_at;
-use crate::{Answer, CellReply};
+use crate::{Answer, CellReply, Digested};
 use inc_disk::Disk;
 use inc_model::Event;
 
@@ -17,6 +17,7 @@ impl<D: Disk> FileCell<D> {
     pub fn poll(&mut self, who: u32, serial: u32, now: u64) -> Answer
         ensures steps { CellSteps self.old who (Poll serial now) [] result self.new }
         ensures hands { MayHand self.old who serial [] result.reply result.handed }
+        ensures early { result.early ≡ None }
     {
         self.poll_known(who, serial, now, &[])
     }
@@ -25,6 +26,24 @@ impl<D: Disk> FileCell<D> {
     pub fn poll_known(&mut self, who: u32, serial: u32, now: u64, known: &[u32]) -> Answer
         ensures steps { CellSteps self.old who (Poll serial now) [] result self.new }
         ensures hands { MayHand self.old who serial known.now result.reply result.handed }
+        ensures early { result.early ≡ None }
+    {
+        self.poll_hinted(who, serial, now, known, None)
+    }
+
+    /// The same by one who may have the block already, hashed: where it has the bytes of this hint it isn't hashed again. The block is read
+    /// all the same, and what is handed out is what was read.
+    pub fn poll_hinted(
+        &mut self,
+        who: u32,
+        serial: u32,
+        now: u64,
+        known: &[u32],
+        hint: Option<&Digested>,
+    ) -> Answer
+        ensures steps { CellSteps self.old who (Poll serial now) [] result self.new }
+        ensures hands { MayHand self.old who serial known.now result.reply result.handed }
+        ensures early { result.early ≡ None }
     {
         let event = Event::Poll { serial, now };
         let at = self.book.len();
@@ -50,6 +69,7 @@ impl<D: Disk> FileCell<D> {
             block,
             place,
             known,
+            hint,
             wanted,
         ) {
             Ok(handing) => handing,
@@ -61,6 +81,7 @@ impl<D: Disk> FileCell<D> {
             reply: CellReply::Done(reply),
             at,
             handed,
+            early: None,
         }
     }
 }

@@ -6,10 +6,11 @@ ghost use Rattle.inc_entry.specs.Entry.{area_places, block_bytes, tree_span};
 ghost use Rattle.inc_entry.specs.Spans.{IsInside};
 ghost use Rattle.inc_layout.specs.declared.reading.stored_error.StoredError.TheVariants.{ReadFault as read_fault};
 ghost use Rattle.inc_cell.specs.device.Handed.{HandsOf, HandsRead, IfHanded, IsReadFrom, block_from, block_of, is_waiting, unknown_hashes, unknown_path};
+ghost use Rattle.inc_cell.specs.device.Early.{is_asked_reply};
 ghost use Rattle.inc_cell.specs.events.Steps.{HasCounted};
 ghost use Rattle.inc_cell.specs.events.Wanted.{IsNoFault};
 
-use crate::{Digested, HandedBytes, OutOfMemory};
+use crate::{CellReply, Digested, HandedBytes, OutOfMemory};
 use inc_disk::Disk;
 use inc_entry::Areas;
 use inc_io::Backing;
@@ -25,6 +26,13 @@ pub fn is_waiting(reply: &Reply) -> bool
     matches!(reply, Reply::NotYet)
 }
 
+/// Whether an ask was taken.
+pub fn is_asked(reply: &CellReply) -> bool
+    ensures value { result ≡ is_asked_reply reply.now }
+{
+    matches!(reply, CellReply::Done(Reply::Asked { .. }))
+}
+
 /// The block of a read, or none that matters where there is no such read.
 pub fn block_of(read: Option<ReadRow>) -> u32
     ensures value { result ≡ block_of read }
@@ -35,7 +43,8 @@ pub fn block_of(read: Option<ReadRow>) -> u32
     }
 }
 
-/// Reads a data block at its place, and the blocks of its path that aren't known, leaf level first, each in one call.
+/// Reads a data block at its place, and the blocks of its path that aren't known, leaf level first, each in one call. The block is hashed
+/// unless it has the bytes of the hint.
 pub fn read_handed<B: Backing>(
     alloc: Global,
     file: &mut B,
@@ -43,6 +52,7 @@ pub fn read_handed<B: Backing>(
     place: u64,
     block: u32,
     known: &[u32],
+    hint: Option<&Digested>,
 ) -> Result<HandedBytes, StoredError>
     requires here { block < data_blocks areas.now.geometry }
     requires end { areas.now.hash_at + block_bytes * hash_blocks areas.now.geometry < 2 ^ 64 }
@@ -59,7 +69,7 @@ pub fn read_handed<B: Backing>(
     let bytes = read_stored(alloc, file, place, len)?;
     let path = read_unknown(alloc, file, areas, block, known)?;
     Ok(HandedBytes {
-        block: Digested::of(bytes, len),
+        block: Digested::hinted(bytes, len, hint),
         path,
     })
 }
@@ -105,6 +115,7 @@ pub fn hand_out<D: Disk>(
     block: u32,
     place: u64,
     known: &[u32],
+    hint: Option<&Digested>,
     wanted: Reply,
 ) -> Result<Handing, OutOfMemory>
     requires plain { IsNoFault wanted }
@@ -116,7 +127,7 @@ pub fn hand_out<D: Disk>(
     ensures quiet { OnErr result (D.faults disk.new ≡ D.faults disk.old) }
 {
     match wanted {
-        Reply::Handed { .. } => hand_read(alloc, disk, areas, block, place, known),
+        Reply::Handed { .. } => hand_read(alloc, disk, areas, block, place, known, hint),
         other => Ok(Handing {
             reply: other,
             handed: None,
@@ -132,6 +143,7 @@ fn hand_read<D: Disk>(
     block: u32,
     place: u64,
     known: &[u32],
+    hint: Option<&Digested>,
 ) -> Result<Handing, OutOfMemory>
     requires here { block < data_blocks areas.now.geometry }
     requires end { areas.now.hash_at + block_bytes * hash_blocks areas.now.geometry < 2 ^ 64 }
@@ -140,7 +152,7 @@ fn hand_read<D: Disk>(
     ensures cause { IfOk result (λ handing. HasCounted (D.faults disk.old) (D.faults disk.new) handing.reply) }
     ensures quiet { OnErr result (D.faults disk.new ≡ D.faults disk.old) }
 {
-    match read_handed(alloc, disk, areas, place, block, known) {
+    match read_handed(alloc, disk, areas, place, block, known, hint) {
         Ok(handed) => Ok(Handing {
             reply: Reply::Handed {
                 digest: handed.block.digest(),

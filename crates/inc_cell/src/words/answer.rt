@@ -2,7 +2,7 @@
 
 use crate::Digested;
 use inc_model::Reply;
-use inc_tree::Path;
+use inc_tree::{Block, Path};
 
 /// What comes of an event.
 #[derive(Drop)]
@@ -28,4 +28,6 @@ pub struct Answer {
     pub at: u64,
     /// There exactly where the reply is `Handed`.
     pub handed: Option<HandedBytes>,
+    /// The bytes of a block that was asked for early, and is there: not hashed yet.
+    pub early: Option<Block>,
 }

@@ -5,6 +5,7 @@ ghost use Rattle.sha2.specs.Sha256.{sha256};
 ghost use Rattle.inc_cell.specs.device.Digested.{digested};
 
 mod group;
+mod hint;
 
 use inc_tree::{Block, Digest32, digest_block};
 use std::marker::Model;

@@ -59,7 +59,7 @@ fn clear_ends(blocks: &mut [Block], lens: &[u32])
 }
 
 /// Puts zeros after the bytes that count of a block.
-fn clear_end(block: &mut Block, len: u32)
+pub(super) fn clear_end(block: &mut Block, len: u32)
     requires { len ≤ 4096 }
     ensures { IsCleared block.old len block.new }
 {

@@ -45,4 +45,9 @@ returns g c =
             (ap (λ (a : Answer). a.at) w.result-is ∙ w.unhanded-in-Err.ensures.at ∙ c.len-at.ensures.value) (ap (λ (a : Answer). a.reply) w.result-is ∙ w.unhanded-in-Err.ensures.reply)
             (ap (λ (a : Answer). a.handed) w.result-is ∙ w.unhanded-in-Err.ensures.handed)
       ]);
+      count = ap (λ (o : Seen). o.count) c.self.view_is;
+      early = elim c.match-take_down.branch [
+        | in-Ok w ↦ ap (λ (a : Answer). a.early) w.result-is ∙ w.unhanded-in-Ok.ensures.early
+        | in-Err w ↦ ap (λ (a : Answer). a.early) w.result-is ∙ w.unhanded-in-Err.ensures.early
+      ];
     }

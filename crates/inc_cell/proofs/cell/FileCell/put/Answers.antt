@@ -86,4 +86,5 @@ returns g c =
     record {
       steps = subst (λ (o : Seen). CellSteps o c.args.who (PutData c.args.window c.args.index c.args.digest) c.args.block.now c.unhanded-2.result new) c.self.view_is
           (fill_steps states count c.self.inside.opened opening c.self.inside.log (g.D.Disk.states (g.D.Backing.kept c.put_block-reply.new.disk)) (g.D.Backing.faults c.put_block-reply.new.disk) c.self.inside.book c.make_room.new.self c.enter.new.self c.self.inside.spots.items c.self.inside.end c.args.who (PutData c.args.window c.args.index c.args.digest) c.unwrap-wanted.result c.put_block-reply.result c.args.block.now c.self.invariant c.requires.own tt room c.make_room.ensures.same wanted c.put_block-reply.ensures.comes (g.met.D.Disk.sound c.self.inside.disk) brings c.put_block-reply.ensures.does c.put_block-reply.ensures.cause refl (search rules) c.unhanded-2.result (c.unhanded-2.ensures.at ∙ c.len-at.ensures.value) c.unhanded-2.ensures.reply c.unhanded-2.ensures.handed);
+      early = c.unhanded-2.ensures.early;
     }

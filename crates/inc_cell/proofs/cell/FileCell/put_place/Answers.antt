@@ -72,4 +72,5 @@ returns g c =
           (fill_steps states count c.self.inside.opened opening c.self.inside.log (g.D.Disk.states (g.D.Backing.kept c.put_place-reply.new.disk)) (g.D.Backing.faults c.put_place-reply.new.disk) c.self.inside.book c.make_room.new.self c.enter.new.self
           c.self.inside.spots.items c.self.inside.end c.args.who (PutPlace c.args.window c.args.index) c.unwrap-wanted.result c.put_place-reply.result [] c.self.invariant c.requires.own tt room c.make_room.ensures.same wanted c.put_place-reply.ensures.comes
           (g.met.D.Disk.sound c.self.inside.disk) tt device c.put_place-reply.ensures.cause refl (search rules) c.unhanded-2.result (c.unhanded-2.ensures.at ∙ c.len-at.ensures.value) c.unhanded-2.ensures.reply c.unhanded-2.ensures.handed);
+      early = c.unhanded-2.ensures.early;
     }

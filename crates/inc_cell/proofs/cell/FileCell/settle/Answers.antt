@@ -48,4 +48,5 @@ returns g c =
           c.self.inside.spots.items c.self.inside.end c.args.who (Settle c.args.window) c.unwrap-wanted.result c.sync-reply.result [] c.self.invariant c.requires.own tt room c.make_room.ensures.same wanted c.sync-reply.ensures.comes
           (g.met.D.Disk.sound c.self.inside.disk) tt c.sync-reply.ensures.does c.sync-reply.ensures.cause refl (search rules) c.unhanded-2.result (c.unhanded-2.ensures.at ∙ c.len-at.ensures.value) c.unhanded-2.ensures.reply
           c.unhanded-2.ensures.handed);
+      early = c.unhanded-2.ensures.early;
     }

@@ -1,4 +1,4 @@
-use Rattle.std.proofs.Common.{◌≡◌, true, false, List, [], ◌++◌, length, Option, refl, sym, subst, ap, ◌∙◌, rules}
+use Rattle.std.proofs.Common.{◌≡◌, true, false, List, [], ◌++◌, length, Option, None, refl, sym, subst, ap, ◌∙◌, rules}
 use Rattle.std.specs.Prelude.{slice_index}
 use Rattle.inc_pending.specs.Polling.{read_of}
 use Rattle.inc_pending.specs.declared.reads.ReadRow.{ReadRow}
@@ -21,7 +21,7 @@ use Rattle.inc_cell.specs.declared.words.answer.CellReply.TheVariants.{Done}
 use Rattle.inc_cell.proofs.steps.CellLemmas.{with_history}
 use Rattle.inc_cell.proofs.handing.PollSteps.{poll_enters, poll_plain, poll_steps, poll_then, waits_steps}
 use Rattle.inc_cell.proofs.handing.PollLemmas.{poll_allowed, poll_hands, poll_here}
-use Rattle.inc_cell.proofs.cell.FileCell.poll_known.Goals as goal
+use Rattle.inc_cell.proofs.cell.FileCell.poll_hinted.Goals as goal
 
 pub hand_out-requires-clause-plain : goal.hand_out-requires-clause-plain
 hand_out-requires-clause-plain g c =
@@ -92,7 +92,7 @@ returns-clause-steps g c =
     c.keep_read.ensures.value ∙ ap (λ (r : Option ReadRow). log_then c.self.inside.log (ended_poll r c.args.now c.in-Ok.handing.reply)) read in
     let told : (all : List LogEntry) → Tells all c.self.inside.log → Tells (all ++ ended_poll (read_of c.args.who c.args.serial c.self.inside.book.state.reads) c.args.now c.in-Ok.handing.reply) c.keep_read.new.log =
     subst (λ (r : Option ReadRow). (all : List LogEntry) → Tells all c.self.inside.log → Tells (all ++ ended_poll r c.args.now c.in-Ok.handing.reply) c.keep_read.new.log) read c.keep_read.ensures.told in
-    let answer : Answer = record { reply = Done c.in-Ok.handing.reply; at = c.len-at.result; handed = c.in-Ok.handing.handed } in
+    let answer : Answer = record { reply = Done c.in-Ok.handing.reply; at = c.len-at.result; handed = c.in-Ok.handing.handed; early = None } in
     let new : Seen = record { states = g.D.Disk.states (g.D.Backing.kept c.hand_out.new.disk); count = g.D.Backing.faults c.hand_out.new.disk; opened = c.self.inside.opened; opening = opening_of c.self.inside.opened c.self.inside.first_faults c.self.inside.first_readers; history = c.enter.new.self.history; log = c.keep_read.new.log } in
     subst (λ (o : Seen). CellSteps o c.args.who (Poll c.args.serial c.args.now) [] answer new) c.self.view_is
     (subst (λ k. CellSteps (with_history (g.D.Disk.states (g.D.Backing.kept c.self.inside.disk)) (g.D.Backing.faults c.self.inside.disk) c.self.inside.opened (opening_of c.self.inside.opened c.self.inside.first_faults c.self.inside.first_readers) c.self.inside.log c.self.inside.book.history) c.args.who (Poll c.args.serial c.args.now) [] answer (record { states = g.D.Disk.states k; count = g.D.Backing.faults c.hand_out.new.disk; opened = c.self.inside.opened; opening = opening_of c.self.inside.opened c.self.inside.first_faults c.self.inside.first_readers; history = c.enter.new.self.history; log = c.keep_read.new.log })) (sym c.hand_out.ensures.kept)
