@@ -108,7 +108,7 @@ impl KnownPath {
         let mut digests = [digest; MOST_LEVELS + 1];
         let path = fill_in(levels, handed.into_vec(), path, &mut digests[1..]);
         let count = path.len() + 1;
-        verify_content(
+        verify_digested(
             &root,
             &geometry,
             index,
@@ -117,29 +117,6 @@ impl KnownPath {
             &digests[..count],
         )
     }
-}
-
-// Checks a block by the digests of its content and of its path. What stands after its length is put to zeros, as the content is hashed.
-fn verify_content(
-    root: &Digest32,
-    tree: &Geometry,
-    index: u32,
-    bytes: Block,
-    path: Path,
-    digests: &[Digest32],
-) -> Result<Verified, Broken>
-    requires tree { tree.now.flat ≡ false }
-    requires here { index < data_blocks tree.now }
-    requires full { length path ≡ depth tree.now }
-    requires digested { digests.now ≡ block_digest (content_at tree.now index bytes) ∷ map sha256 path }
-    ensures made { IfOk result (λ block. IsMadeOf root.now tree.now index bytes path block) }
-    ensures ok { OnOk result (IsProof root.now tree.now index (content_at tree.now index bytes) path) }
-    ensures broken { IfErr result (λ broken.
-        NamesBreak root.now index (content_at tree.now index bytes) path broken.level broken.wanted broken.got) }
-{
-    let mut cleared = bytes;
-    cleared.clear_from(tree.block_len(index));
-    verify_digested(root, tree, index, cleared, path, digests)
 }
 
 // Puts each level's block into the path and its digest beside it: the known ones, and at the other levels the handed ones in order.

@@ -1,2 +1,3 @@
 pub mod fills
 pub mod reads
+pub mod told

@@ -7,7 +7,4 @@ pub mod Loops
 pub mod PutLoops
 pub mod Finishes
 pub mod Stores
-pub mod Checked
-pub mod Taken
-pub mod Counted
 pub mod Pendings

@@ -1,6 +1,9 @@
+pub mod AnswerLemmas
 pub mod AskLemmas
+pub mod LeaveLemmas
 pub mod MomentLemmas
 pub mod PollLemmas
 pub mod ReadLemmas
+pub mod SeenLemmas
 pub mod ShowLemmas
 pub mod TurnLemmas

@@ -1,12 +1,11 @@
 -- What a fill leaves of its seat's own entries, by what it answers.
-use Rattle.std.specs.Prelude.{◌≡◌, ◌⊎◌, ℕ, zero, suc, ◌+◌, ◌-◌, ◌*◌, List, [], ◌∷◌, ◌++◌, length, map, take, Option, Some, None, Result, Ok, Err}
+use Rattle.std.specs.Prelude.{◌≡◌, ◌⊎◌, ℕ, zero, suc, ◌+◌, ◌-◌, ◌*◌, List, [], ◌∷◌, ◌++◌, length, take, None, Result, Ok, Err}
 use Rattle.inc_model.specs.laws.HistoryLaws.{own_entries}
+use Rattle.inc_model.specs.relation.State.{IsOpening}
 use Rattle.inc_model.specs.relation.Step.{IsLegal}
 use Rattle.inc_model.specs.declared.words.event.Event.{Event}
 use Rattle.inc_model.specs.declared.words.event.Event.TheVariants.{Claim, Settle}
 use Rattle.inc_model.specs.declared.words.event.Window.{Window}
-use Rattle.inc_model.specs.declared.words.outcomes.Outcome.{Outcome}
-use Rattle.inc_model.specs.declared.words.outcomes.Outcome.TheVariants as outcome
 use Rattle.inc_model.specs.declared.words.reply.Entry.{Entry}
 use Rattle.inc_model.specs.declared.words.reply.Reply.TheVariants as reply
 use Rattle.inc_turn.specs.Turns.{AddsOwn}
@@ -18,9 +17,8 @@ use Rattle.inc_filling.specs.Stands.{events_of}
 use Rattle.inc_filling.specs.declared.filling.Filling.{Filling}
 use Rattle.inc_filling.specs.declared.stop.FillStop.{FillStop}
 use Rattle.inc_filling.specs.declared.stop.FillStop.TheVariants as stop
-use Rattle.inc_handle.specs.UnderWay.{AllGoOn, EachEnds, EndsWith, FillRuns, FillStops, HasOwnEntry, IsEntryAt, IsFullFile, IsUnclaimed, StopsIn, StopsWith, release_entry, stored_among}
+use Rattle.inc_handle.specs.UnderWay.{AllGoOn, EachEnds, EndsWith, FillRuns, IsEntryAt, IsFullFile, IsUnclaimed, StopsIn, StopsWith, release_entry, stored_among}
 use Rattle.inc_handle.specs.declared.fill.window.PutEnd.{PutEnd}
-use Rattle.inc_handle.specs.declared.fill.window.PutEnd.TheVariants.{Busy, Present, Stored}
 
 abbrev pub settle_entry : Window → Entry
 settle_entry window = record { who = window.who; event = Settle window; reply = reply.Settled }
@@ -76,6 +74,7 @@ pub record IsFilledOwn (file : CellFooting) (v : View CellFooting) (window : Win
   pub each : EachEnds (heard w) (length (heard v)) window.who (puts_of file.opened window group) ends
   pub stored_are : stored ≡ stored_among (group_indices group) ends
   pub settled : (stored ≡ []) ⊎ IsLastSettle (heard w) window at
+  pub begins : IsOpening file.opening
   pub legal : IsLegal 0 file.told file.opening (heard w)
 
 -- The events up to the one with which it stopped, and the release.
@@ -90,6 +89,7 @@ pub record IsBrokenOwn (file : CellFooting) (v : View CellFooting) (window : Win
   pub covers : (length ends ≡ length group) ⊎ (events_of (mine ++ last ∷ []) ≡ (claim_event window (length group) ∷ []) ++ puts_of file.opened window (take (length ends + 1) group))
   pub each : EachEnds (heard w) (length (heard v)) window.who (puts_of file.opened window (take (length ends) group)) ends
   pub stored_are : stored ≡ stored_among (take (length ends) (group_indices group)) ends
+  pub begins : IsOpening file.opening
   pub legal : IsLegal 0 file.told file.opening (heard w)
 
 abbrev pub FillsOwn : CellFooting → View CellFooting → Window → List Filling → Result ℕ FillStop → List PutEnd → List ℕ → View CellFooting → Type 0

@@ -1,6 +1,9 @@
+pub mod Answered
+pub mod Caches
 pub mod CellTurns
 pub mod Checks
 pub mod Fills
+pub mod Met
 pub mod Outcomes
 pub mod Pending
 pub mod Reads

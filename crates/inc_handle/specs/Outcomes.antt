@@ -1,5 +1,5 @@
 -- What a fill of pieces answers, by what became of their blocks.
-use Rattle.std.specs.Prelude.{◌≡◌, ◌⊎◌, ℕ, zero, suc, ◌==◌, ◌&&◌, Bool, true, false, List, [], ◌∷◌, map, Option, Some, None, Result, Ok, Err, nat_eq}
+use Rattle.std.specs.Prelude.{◌≡◌, ◌⊎◌, ℕ, suc, ◌==◌, ◌&&◌, Bool, true, false, List, [], ◌∷◌, map, Option, Some, None, Result, Ok, Err, nat_eq}
 use Rattle.std.specs.Cmp.Lexicographic.{pointwise}
 use Rattle.inc_frame.specs.declared.piece.Piece.{Piece}
 use Rattle.inc_layout.specs.declared.opened.Opened.{Opened}
@@ -16,6 +16,7 @@ use Rattle.inc_filling.specs.declared.stop.FillStop.{FillStop}
 use Rattle.inc_filling.specs.declared.stop.FillStop.TheVariants as stop
 use Rattle.inc_handle.specs.Checks.{refusal_from}
 use Rattle.inc_handle.specs.Fills.{FillsOwn}
+use Rattle.inc_handle.specs.Met.{FillMet}
 use Rattle.inc_handle.specs.declared.fill.window.PutEnd.{PutEnd}
 use Rattle.inc_handle.specs.declared.fill.window.PutEnd.TheVariants.{Busy, Present, Stored}
 
@@ -50,6 +51,7 @@ pub record FillsByGroup (file : CellFooting) (v : View CellFooting) (window : Wi
   pub stored : List ℕ
   pub stores : StorePieces file.opened group pieces
   pub fills : FillsOwn file v window group end ends stored w
+  pub met : FillMet file v window group end ends w
   pub told : result ≡ told_by end ends
 
 -- no memory was there before the first event

@@ -1,10 +1,9 @@
 -- What taking the waiting reads leaves of a seat's own entries, by what it answers.
-use Rattle.std.specs.Prelude.{ℕ, List, [], ◌∷◌, Result, Ok, Err}
+use Rattle.std.specs.Prelude.{ℕ, [], ◌∷◌, Result, Ok, Err}
 use Rattle.inc_model.specs.relation.Step.{IsLegal}
 use Rattle.inc_model.specs.declared.words.event.Event.TheVariants.{TakePending}
 use Rattle.inc_model.specs.declared.words.outcomes.FillError.{FillError}
 use Rattle.inc_model.specs.declared.words.outcomes.FillError.TheVariants as refusal
-use Rattle.inc_model.specs.declared.words.reply.Entry.{Entry}
 use Rattle.inc_model.specs.declared.words.reply.Reply.TheVariants.{Taken}
 use Rattle.inc_turn.specs.Turns.{AddsOwn}
 use Rattle.inc_turn.specs.Views.{heard}

@@ -29,6 +29,7 @@ use Rattle.inc_cell.specs.declared.words.answer.HandedBytes.{HandedBytes}
 use Rattle.inc_cell.specs.declared.words.answer.CellReply.{CellReply}
 use Rattle.inc_cell.specs.declared.words.answer.CellReply.TheVariants.{Done, HistoryFull as full, OutOfMemory as unmet}
 use Rattle.inc_turn.specs.Turns.{AddsOwn}
+use Rattle.inc_handle.specs.declared.reader.asking.BegunRead.{BegunRead}
 use Rattle.inc_handle.specs.declared.reader.polling.Polled.{Polled}
 use Rattle.inc_handle.specs.declared.reader.polling.Polled.TheVariants.{Given, Late, Pathless, Faulted, Crowded, Starved}
 use Rattle.inc_turn.specs.Views.{heard}
@@ -40,13 +41,15 @@ use Rattle.inc_turn.specs.declared.view.View.{View}
 abbrev pub EntryStands : View CellFooting → ℕ → Entry → Type 0
 EntryStands w at entry = slice_get (heard w) at ≡ Some entry
 
--- At a moment that the seat has seen, the history had so many entries and so many claimed places, and with one more they are too many.
-pub record IsOverfull (w : View CellFooting) (entries claimed : ℕ) : Type 0 where
+-- At a moment that the seat has seen, since the history had `from` entries, it had so many entries and so many claimed places, and with one
+-- more they are too many.
+pub record IsOverfull (from : ℕ) (w : View CellFooting) (entries claimed : ℕ) : Type 0 where
   pub footing : CellFooting
   pub front : List Entry
   pub rest : List Entry
   pub footing_is : w.footing ≡ Some footing
   pub heard_is : heard w ≡ front ++ rest
+  pub since : from ≤ length front
   pub entries_are : entries ≡ length front
   pub claimed_are : claimed ≡ all_places (state_after 0 footing.opening front).claimed
   pub full : MOST_ENTRIES < entries + claimed + 1
@@ -62,13 +65,19 @@ pub record LeavesNothing (v w : View CellFooting) : Type 0 where
   pub adds : AddsOwn v w []
 
 abbrev pub LeaveRefused : View CellFooting → View CellFooting → ReadError → Type 0
-LeaveRefused v w (refused.HistoryFull entries claimed) = LeavesNothing v w × IsOverfull w entries claimed
+LeaveRefused v w (refused.HistoryFull entries claimed) = LeavesNothing v w × IsOverfull (length (heard v)) w entries claimed
 LeaveRefused v w refused.OutOfMemory = LeavesNothing v w
 LeaveRefused v w error = ⊥
 
 abbrev pub LeaveTold : View CellFooting → View CellFooting → Result ℕ ReadError → Type 0
 LeaveTold v w (Ok at) = LeavesAt v w at
 LeaveTold v w (Err error) = LeaveRefused v w error
+
+-- what a reader that leaves is told of a cell's reply, whose entry stands at this position
+abbrev pub left_result : ℕ → CellReply → Result ℕ ReadError
+left_result at (Done reply) = Ok at
+left_result at (full entries claimed) = Err (refused.HistoryFull entries claimed)
+left_result at unmet = Err refused.OutOfMemory
 
 -- ---- asking
 
@@ -100,13 +109,18 @@ abbrev pub AskRefused : View CellFooting → View CellFooting → ℕ → ℕ �
 AskRefused v w index uid moment refused.OutOfRange = AskedFor v w index uid moment OutOfRange
 AskRefused v w index uid moment refused.Damaged = AskedFor v w index uid moment Damaged
 AskRefused v w index uid moment refused.Compressed = AskedFor v w index uid moment Compressed
-AskRefused v w index uid moment (refused.HistoryFull entries claimed) = LeavesNothing v w × IsOverfull w entries claimed
+AskRefused v w index uid moment (refused.HistoryFull entries claimed) = LeavesNothing v w × IsOverfull (length (heard v)) w entries claimed
 AskRefused v w index uid moment refused.OutOfMemory = LeavesNothing v w
 AskRefused v w index uid moment error = ⊥
 
 abbrev pub AskTold : CellFooting → View CellFooting → View CellFooting → ℕ → ℕ → ℕ → Result ℕ ReadError → Type 0
 AskTold footing v w index uid moment (Ok serial) = HasAsked footing v w index uid moment serial
 AskTold footing v w index uid moment (Err error) = AskRefused v w index uid moment error
+
+-- the serial of a read that was begun, whatever bytes came with it
+abbrev pub serial_in : Result BegunRead ReadError → Result ℕ ReadError
+serial_in (Ok begun) = Ok begun.serial
+serial_in (Err error) = Err error
 
 -- what a cell replies to an ask
 abbrev pub IsAskReply : Reply → Type 0
@@ -169,7 +183,7 @@ PollEnds footing v w serial index moment known (Late deadline now at) =
     (now ≡ moment) × PolledAs v w serial moment (TimedOut deadline) at × WasLate footing w index deadline moment
 PollEnds footing v w serial index moment known (Pathless hash at) = PolledAs v w serial moment (NoPath hash) at × LackedPath footing w index hash
 PollEnds footing v w serial index moment known (Faulted count at) = PolledAs v w serial moment (Fault count) at
-PollEnds footing v w serial index moment known (Crowded entries claimed) = LeavesNothing v w × IsOverfull w entries claimed
+PollEnds footing v w serial index moment known (Crowded entries claimed) = LeavesNothing v w × IsOverfull (length (heard v)) w entries claimed
 PollEnds footing v w serial index moment known Starved = LeavesNothing v w
 
 -- where the read has to wait on, nothing is left of the poll
@@ -271,7 +285,7 @@ ReadRefused may footing v w index uid (refused.Corrupt level wanted got at) = Re
 ReadRefused may footing v w index uid refused.ReadFault =
     (serial : ℕ) × (moment : ℕ) × (count : ℕ) × may moment × GivesUp may v w index uid serial (poll_entry v.number serial moment (Fault count) ∷ [])
 ReadRefused may footing v w index uid (refused.HistoryFull entries claimed) =
-    IsOverfull w entries claimed × (LeavesNothing v w ⊎ ((serial : ℕ) × GivesUp may v w index uid serial []))
+    IsOverfull (length (heard v)) w entries claimed × (LeavesNothing v w ⊎ ((serial : ℕ) × GivesUp may v w index uid serial []))
 ReadRefused may footing v w index uid refused.OutOfMemory = LeavesNothing v w ⊎ ((serial : ℕ) × GivesUp may v w index uid serial [])
 
 -- what a read answers, by its seat's own entries
@@ -322,11 +336,7 @@ pub record CancelTold (v w : View CellFooting) (serial : ℕ) : Type 0 where
   pub adds : AddsOwn v w cancelled
   pub cancel : (cancelled ≡ []) ⊎ ((reply : Reply) × (cancelled ≡ cancel_entry v.number serial reply ∷ []))
 
--- ---- a reader's cache: of an unsigned file there is none
-
-abbrev pub CacheFits : CellFooting → Option CachedHashes → Type 0
-CacheFits footing None = sig_root footing.opened.sig ≡ None
-CacheFits footing (Some cache) = (sig_root footing.opened.sig ≡ Some cache.root) × (cache.shape ≡ footing.opened.areas.geometry)
+-- ---- what a cache may keep of a read
 
 -- a block that was checked under a cache's root
 abbrev pub IsOfCache : CachedHashes → Shown → Type 0
@@ -337,10 +347,3 @@ abbrev pub IsOfRead : Option CachedHashes → Result Found ReadError → Type 0
 IsOfRead None result = Unit {0}
 IsOfRead (Some cache) (Ok found) = IsOfCache cache found.shown
 IsOfRead (Some cache) (Err error) = Unit {0}
-
--- ---- several reads, one after the other
-
--- one answer for each index, in order
-abbrev pub ReadsEach : (ℕ → Type 0) → CellFooting → View CellFooting → View CellFooting → ℕ → ℕ → List (Result Found ReadError) → Type 0
-ReadsEach may footing v w index uid [] = w ≡ v
-ReadsEach may footing v w index uid (answer ∷ answers) = (u : View CellFooting) × ReadTold may footing v u index uid answer × ReadsEach may footing u w (index + 1) uid answers

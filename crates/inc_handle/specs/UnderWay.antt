@@ -1,6 +1,6 @@
 -- A fill on its way: the entries of its seat since it began, each with the reply with which it goes on.
 use Rattle.std.specs.Prelude.{◌≡◌, ℕ, ◌+◌, ◌-◌, ◌<◌, ◌≤◌, Bool, true, false, if◌then◌else◌, List, [], ◌∷◌, ◌++◌, length, take, Option, Some, None, Result, Ok, Err}
-use Rattle.inc_model.specs.relation.State.{all_places}
+use Rattle.inc_model.specs.relation.State.{IsOpening, all_places}
 use Rattle.inc_model.specs.relation.Step.{HasRoom, IsLegal, state_after}
 use Rattle.inc_model.specs.declared.words.event.Event.{Event}
 use Rattle.inc_model.specs.declared.words.event.Event.TheVariants.{Claim, Gate, PutData, PutPlace, Release, Settle}
@@ -170,6 +170,7 @@ pub record IsFullFile (file : CellFooting) (start : View CellFooting) (event : E
 -- the claim alone, of a file that had failed before
 pub record IsUnclaimed (file : CellFooting) (start : View CellFooting) (window : Window) (event : Event) (at : ℕ) (v : View CellFooting) : Type 0 where
   pub adds : AddsOwn start v (record { who = window.who; event = event; reply = reply.Failed at } ∷ [])
+  pub begins : IsOpening file.opening
   pub legal : IsLegal 0 file.told file.opening (heard v)
 
 abbrev pub ClaimSteps : {T : Type 0} → CellFooting → View CellFooting → Window → ℕ → Result T FillStop → View CellFooting → Type 0
@@ -192,6 +193,7 @@ release_entry window = record { who = window.who; event = Release window; reply 
 
 pub record Releases (file : CellFooting) (window : Window) (v w : View CellFooting) : Type 0 where
   pub adds : AddsOwn v w (release_entry window ∷ [])
+  pub begins : IsOpening file.opening
   pub legal : IsLegal 0 file.told file.opening (heard w)
 
 -- ---- several events

@@ -1,13 +1,11 @@
 -- The claim with which a fill begins, and the release with which it ends.
-use Rattle.std.proofs.Common.{◌≡◌, ◌⊎◌, inl, inr, ℕ, ◌+◌, ◌<◌, ◌≤◌, Bool, true, false, List, [], ◌∷◌, ◌++◌, length, Option, Some, None, refl, sym, ap, subst, ◌∙◌, arith, append-nil}
-use Rattle.std.specs.Prelude.{Result, Ok, Err}
+use Rattle.std.proofs.Common.{◌≡◌, ◌⊎◌, inl, inr, ℕ, ◌+◌, Bool, false, List, [], ◌∷◌, length, Option, Some, None, refl, sym, ap, subst, ◌∙◌, arith, append-nil}
+use Rattle.std.specs.Prelude.{Result}
 use Rattle.std.proofs.lemmas.List.{append_cancel_left}
 use Rattle.inc_model.specs.histories.Machines.{added}
-use Rattle.inc_model.specs.relation.Changes.{change}
-use Rattle.inc_model.specs.relation.State.{Claims, all_places, claim, places_left}
-use Rattle.inc_model.specs.relation.Step.{Fits, HasRoom, IsLegal, may_fail, state_after}
+use Rattle.inc_model.specs.relation.State.{all_places, claim, places_left}
+use Rattle.inc_model.specs.relation.Step.{Fits, HasRoom, may_fail, state_after}
 use Rattle.inc_model.specs.relation.Table.{unless_failed}
-use Rattle.inc_model.specs.declared.words.event.Event.{Event}
 use Rattle.inc_model.specs.declared.words.event.Event.TheVariants.{Claim, Release}
 use Rattle.inc_model.specs.declared.words.event.Window.{Window}
 use Rattle.inc_model.specs.declared.words.file_state.FileState.{FileState}
@@ -31,11 +29,10 @@ use Rattle.inc_cell.specs.declared.words.event.CellEvent.{CellEvent}
 use Rattle.inc_cell.specs.declared.words.event.CellEvent.TheVariants as cell
 use Rattle.inc_filling.specs.Stops.{going_on, goes_on}
 use Rattle.inc_filling.specs.declared.stop.FillStop.{FillStop}
-use Rattle.inc_filling.specs.declared.stop.FillStop.TheVariants as stop
 use Rattle.inc_filling.proofs.lemmas.EventLemmas.{IsPlainReply, came}
 use Rattle.inc_handle.specs.Shared.{TakesTurn}
-use Rattle.inc_handle.specs.UnderWay.{ClaimSteps, IsFullFile, MayRelease, Releases, release_entry}
-use Rattle.inc_handle.proofs.fills.Turns.{added_on, floor, is_reply, mid, more, own_stands, runs_on, some_is, stands_on, stops_on}
+use Rattle.inc_handle.specs.UnderWay.{ClaimSteps, MayRelease, Releases}
+use Rattle.inc_handle.proofs.fills.Turns.{added_on, floor, is_reply, mid, more, own_stands, runs_on, stands_on}
 
 -- a reply for which no device is called
 pub quiet_reply : (told : Bool) (faults : ℕ) (wanted given : Reply) → IsPlainReply wanted → may_fail wanted ≡ false → Fits told faults wanted given → given ≡ wanted
@@ -70,6 +67,8 @@ module _ (file : CellFooting) (v w : View CellFooting) (window : Window) (places
   failed_now at does = record {
     adds = subst (λ (who : ℕ). AddsOwn v w (record { who = who; event = Claim window places; reply = reply.Failed at } ∷ [])) number_is
         (added_on file v v w window [] [] (nothing_adds v) refl tt number_is footing_is event answer t (reply.Failed at) does refl);
+    begins = (stands_on file v v w window [] [] (nothing_adds v) refl tt number_is footing_is event answer t (reply.Failed at) does refl 0 (λ i. None)
+        (own_stands file v v w window [] [] (nothing_adds v) refl tt number_is footing_is event answer t (reply.Failed at) does refl 0 (λ i. None) tt (omega arith) (λ i. tt))).begins;
     legal = (stands_on file v v w window [] [] (nothing_adds v) refl tt number_is footing_is event answer t (reply.Failed at) does refl 0 (λ i. None)
         (own_stands file v v w window [] [] (nothing_adds v) refl tt number_is footing_is event answer t (reply.Failed at) does refl 0 (λ i. None) tt (omega arith) (λ i. tt))).legal;
   }
@@ -123,6 +122,8 @@ module _ (file : CellFooting) (v w : View CellFooting) (window : Window) (m : Ma
       record {
         adds = subst (λ (who : ℕ). AddsOwn v w (record { who = who; event = Release window; reply = reply.Released } ∷ [])) m.number_is
             (added_on file v v w window [] [] (nothing_adds v) refl tt m.number_is m.footing_is then answer t reply.Released does refl);
+        begins = (stands_on file v v w window [] [] (nothing_adds v) refl tt m.number_is m.footing_is then answer t reply.Released does refl 0 (λ i. None)
+            (own_stands file v v w window [] [] (nothing_adds v) refl tt m.number_is m.footing_is then answer t reply.Released does refl 0 (λ i. None) tt (omega arith) (λ i. tt))).begins;
         legal = (stands_on file v v w window [] [] (nothing_adds v) refl tt m.number_is m.footing_is then answer t reply.Released does refl 0 (λ i. None)
             (own_stands file v v w window [] [] (nothing_adds v) refl tt m.number_is m.footing_is then answer t reply.Released does refl 0 (λ i. None) tt (omega arith) (λ i. tt))).legal;
       }

@@ -1,5 +1,5 @@
 -- Taking the waiting reads is one entry of the seat, or none where there is no room or no memory.
-use Rattle.std.proofs.Common.{◌≡◌, ℕ, List, [], ◌∷◌, ◌++◌, length, Option, Some, None, refl, sym, ap, subst, ◌∙◌, arith, append-nil}
+use Rattle.std.proofs.Common.{◌≡◌, ℕ, List, [], length, Some, None, refl, sym, ap, subst, ◌∙◌, arith, append-nil}
 use Rattle.std.proofs.lemmas.List.{append_cancel_left}
 use Rattle.inc_model.specs.histories.Machines.{added}
 use Rattle.inc_model.specs.relation.State.{all_places}
@@ -10,7 +10,6 @@ use Rattle.inc_model.specs.declared.words.event.Window.{Window}
 use Rattle.inc_model.specs.declared.words.file_state.FileState.{FileState}
 use Rattle.inc_model.specs.declared.words.reply.Entry.{Entry}
 use Rattle.inc_model.specs.declared.words.reply.Reply.{Reply}
-use Rattle.inc_model.specs.declared.words.reply.Reply.TheVariants.{Taken}
 use Rattle.inc_turn.specs.Turns.{AddsOwn}
 use Rattle.inc_turn.specs.Views.{heard}
 use Rattle.inc_turn.specs.declared.view.View.{View}
@@ -26,7 +25,7 @@ use Rattle.inc_cell.specs.declared.words.answer.CellReply.TheVariants.{Done, His
 use Rattle.inc_cell.specs.declared.words.event.CellEvent.{CellEvent}
 use Rattle.inc_cell.specs.declared.words.event.CellEvent.TheVariants as cell
 use Rattle.inc_handle.specs.Shared.{TakesTurn}
-use Rattle.inc_handle.specs.Pending.{TakesPending, TakesReads, taken_by}
+use Rattle.inc_handle.specs.Pending.{TakesPending, taken_by}
 use Rattle.inc_handle.proofs.fills.Claims.{quiet_reply}
 use Rattle.inc_handle.proofs.fills.Turns.{added_on, floor, own_stands, stands_on}
 

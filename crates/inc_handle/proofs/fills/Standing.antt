@@ -1,13 +1,13 @@
 -- What keeps a window's place in the history: entries of others, and its own events.
-use Rattle.std.proofs.Common.{◌≡◌, ◌⊎◌, inl, inr, ℕ, ◌+◌, ◌-◌, ◌<◌, ◌≤◌, Bool, true, false, not, cond, eqb, List, [], ◌∷◌, ◌++◌, length, Option, Some, None, refl, sym, ap, subst, ◌∙◌, arith}
+use Rattle.std.proofs.Common.{◌≡◌, ◌⊎◌, inl, inr, ℕ, ◌+◌, ◌≤◌, Bool, true, false, not, cond, eqb, List, ◌++◌, length, Option, Some, None, refl, sym, ap, subst, ◌∙◌, arith}
 use Rattle.std.specs.Prelude.{option_map}
 use Rattle.std.proofs.lemmas.Bool.{eqb-true, eq-eqb, ne_eqb}
 use Rattle.inc_model.specs.laws.HistoryLaws.{are_others}
 use Rattle.inc_model.specs.laws.OthersLaws.{IsLeftAs}
 use Rattle.inc_model.specs.laws.StageLaws.{as_stage}
-use Rattle.inc_model.specs.relation.State.{FlightRises, flight_row, fly, places_left, spend}
+use Rattle.inc_model.specs.relation.State.{FlightRises, flight_row, fly, places_left}
 use Rattle.inc_model.specs.relation.Stages.{gated, gated_row, is_gated, placed, placed_row, settled_stage, synced_flight, synced_row, written}
-use Rattle.inc_model.specs.relation.Step.{IsEntry, IsLegal, state_after}
+use Rattle.inc_model.specs.relation.Step.{IsLegal, state_after}
 use Rattle.inc_model.specs.declared.words.event.Window.{Window}
 use Rattle.inc_model.specs.declared.words.file_state.FileState.{FileState}
 use Rattle.inc_model.specs.declared.words.file_state.FlightRow.{FlightRow}

@@ -1,18 +1,15 @@
 -- Each event of a window, from where its fill stands to where it stands then.
-use Rattle.std.proofs.Common.{◌≡◌, ◌⊎◌, inl, inr, ℕ, ◌+◌, ◌-◌, ◌<◌, ◌≤◌, Bool, true, false, List, [], ◌∷◌, ◌++◌, length, Option, Some, None, refl, sym, ap, subst, ◌∙◌, arith, append-nil, append_assoc, length-append}
-use Rattle.std.specs.Prelude.{Result, Ok, Err, count_by, nat_le}
-use Rattle.std.proofs.lemmas.Bool.{lt-leb}
-use Rattle.std.proofs.lemmas.List.{append_cancel_left}
+use Rattle.std.proofs.Common.{◌≡◌, ◌⊎◌, inl, inr, ℕ, ◌-◌, ◌<◌, List, [], ◌∷◌, ◌++◌, length, Option, Some, None, refl, sym, ap, subst, ◌∙◌, arith}
+use Rattle.std.specs.Prelude.{Result, Ok, Err, count_by}
 use Rattle.inc_pending.specs.Polling.{waits_on}
 use Rattle.inc_model.specs.executed.EntriesLeft.{entry_left}
-use Rattle.inc_model.specs.histories.Machines.{added}
-use Rattle.inc_model.specs.relation.Changes.{change, claims_after, gate_change}
-use Rattle.inc_model.specs.relation.State.{Claims, IsSameFile, claim, flight_row, has, is_in, places_left, spend, unclaim}
-use Rattle.inc_model.specs.relation.Stages.{gated, is_at, is_settled, is_written}
-use Rattle.inc_model.specs.relation.Step.{Fits, IsKept, IsLegal, may_fail, needs, needs_beside, state_after}
-use Rattle.inc_model.specs.relation.Table.{flight_reply, gate_reply, place_reply, put_reply, reply_of, unless_failed}
+use Rattle.inc_model.specs.relation.Changes.{claims_after, gate_change}
+use Rattle.inc_model.specs.relation.State.{flight_row, places_left, spend}
+use Rattle.inc_model.specs.relation.Stages.{gated, is_settled, is_written}
+use Rattle.inc_model.specs.relation.Step.{Fits, IsKept, needs, needs_beside}
+use Rattle.inc_model.specs.relation.Table.{gate_reply, place_reply, reply_of, unless_failed}
 use Rattle.inc_model.specs.declared.words.event.Event.{Event}
-use Rattle.inc_model.specs.declared.words.event.Event.TheVariants.{Claim, Gate, PutData, PutPlace, Release, Settle}
+use Rattle.inc_model.specs.declared.words.event.Event.TheVariants.{Gate, PutPlace, Settle}
 use Rattle.inc_model.specs.declared.words.event.Window.{Window}
 use Rattle.inc_model.specs.declared.words.file_state.FileState.{FileState}
 use Rattle.inc_model.specs.declared.words.file_state.FlightRow.{FlightRow}
@@ -21,37 +18,27 @@ use Rattle.inc_model.specs.declared.words.file_state.Stage.TheVariants as stage
 use Rattle.inc_model.specs.declared.words.reply.Entry.{Entry}
 use Rattle.inc_model.specs.declared.words.reply.Reply.{Reply}
 use Rattle.inc_model.specs.declared.words.reply.Reply.TheVariants as reply
-use Rattle.inc_model.proofs.lists.Claims.{claim_own}
-use Rattle.inc_turn.specs.Lists.{entries_of_turns}
-use Rattle.inc_turn.specs.Turns.{AddsOwn}
 use Rattle.inc_turn.specs.Views.{heard}
 use Rattle.inc_turn.specs.declared.view.View.{View}
-use Rattle.inc_turn.proofs.ListLemmas.{entries_of_turns-append}
-use Rattle.inc_turn.proofs.TurnLemmas.{nothing_adds, turn_adds}
-use Rattle.inc_cell.specs.device.Puts.{digest_for}
-use Rattle.inc_cell.specs.events.Answers.{CellReplies}
-use Rattle.inc_cell.specs.events.CellEvents.{CellMoves, block_in, event_of, footing_of}
+use Rattle.inc_cell.specs.events.CellEvents.{block_in, event_left, event_of}
 use Rattle.inc_cell.specs.events.Steps.{ReplyDoes}
-use Rattle.inc_cell.specs.seen.Seen.{Seen, state_now, tells}
+use Rattle.inc_cell.specs.seen.Seen.{state_now, tells}
 use Rattle.inc_cell.specs.declared.machine.CellFooting.{CellFooting}
 use Rattle.inc_cell.specs.declared.words.answer.Answer.{Answer}
 use Rattle.inc_cell.specs.declared.words.answer.CellReply.{CellReply}
-use Rattle.inc_cell.specs.declared.words.answer.CellReply.TheVariants.{Done, HistoryFull, OutOfMemory}
+use Rattle.inc_cell.specs.declared.words.answer.CellReply.TheVariants.{Done}
 use Rattle.inc_cell.specs.declared.words.event.CellEvent.{CellEvent}
 use Rattle.inc_cell.specs.declared.words.event.CellEvent.TheVariants as cell
-use Rattle.inc_filling.specs.Grouped.{put_of}
-use Rattle.inc_filling.specs.Stands.{MayBeFilled, put_stages, staged_then, synced_stage}
+use Rattle.inc_filling.specs.Stands.{staged_then, synced_stage}
 use Rattle.inc_filling.specs.Stops.{going_on, goes_on}
-use Rattle.inc_filling.specs.declared.filling.Filling.{Filling}
 use Rattle.inc_filling.specs.declared.stop.FillStop.{FillStop}
 use Rattle.inc_filling.specs.declared.stop.FillStop.TheVariants as stop
-use Rattle.inc_filling.proofs.lemmas.EventLemmas.{IsPlainReply, came, entry_of, mine}
-use Rattle.inc_filling.proofs.steps.PutLoop.{may_stay}
+use Rattle.inc_filling.proofs.lemmas.EventLemmas.{IsPlainReply, entry_of, mine}
 use Rattle.inc_handle.specs.Shared.{TakesTurn}
 use Rattle.inc_handle.specs.Standing.{FliesOwn, HasRow, WindowStands}
-use Rattle.inc_handle.specs.UnderWay.{ClaimSteps, EndsWith, FillRuns, FillSteps, FillStops, GoesOnWith, HasOwnEntry, IsFullFile, MayRelease, PutSteps, PutsOwnBlock, Releases, SyncSteps, put_end, settled_at}
-use Rattle.inc_handle.proofs.fills.Standing.{gate_flies_own, place_flies_own, put_flies_own, sync_flies_own}
-use Rattle.inc_handle.proofs.fills.Turns.{IsStop, enough_on, facts, floor, goes_or_stops, is_reply, mid, more, own_stands, runs_on, some_is, stops_so}
+use Rattle.inc_handle.specs.UnderWay.{EndsWith, FillRuns, FillSteps, GoesOnWith, SyncSteps, settled_at}
+use Rattle.inc_handle.proofs.fills.Standing.{gate_flies_own, place_flies_own, sync_flies_own}
+use Rattle.inc_handle.proofs.fills.Turns.{IsStop, enough_on, facts, goes_or_stops, is_reply, mid, own_stands, runs_on, stops_so}
 
 -- ---- an event that uses a place of its window
 
@@ -62,7 +49,7 @@ module _ (file : CellFooting) (start v w : View CellFooting) (window : Window) (
   plain = event_of t.before.opened event
 
   abbrev Does : Reply → Type 0
-  Does given = ReplyDoes t.before v.number plain (block_in event) given t.after
+  Does given = ReplyDoes t.before v.number plain (block_in event) given (event_left event t.before t.after)
 
   pub middle : WindowStands window left stages t.before.opening (tells t.before.states) t.before.history
   middle = mid file start v w window h.mine events h.adds h.events_are h.going h.number_is h.footing_is event answer t left stages h.stands

@@ -1,11 +1,10 @@
 -- A whole group: its puts and what follows them, its claim and its release.
-use Rattle.std.proofs.Common.{◌≡◌, ◌⊎◌, inl, inr, ℕ, zero, suc, ◌+◌, ◌-◌, ◌*◌, ◌<◌, ◌≤◌, Bool, true, false, cond, eqb, List, [], ◌∷◌, ◌++◌, length, take, drop, Option, Some, None, refl, sym, ap, subst, ◌∙◌, arith, append_assoc, append-nil, length-append}
+use Rattle.std.proofs.Common.{◌≡◌, inl, inr, ℕ, zero, suc, ◌+◌, ◌-◌, ◌<◌, ◌≤◌, Bool, true, false, cond, eqb, List, [], ◌∷◌, ◌++◌, length, take, drop, Option, Some, None, refl, sym, ap, subst, ◌∙◌, arith, append_assoc, append-nil, length-append}
 use Rattle.std.specs.Prelude.{Result, Ok, Err, map}
 use Rattle.inc_model.specs.laws.HistoryLaws.{own_entries}
 use Rattle.inc_model.specs.declared.words.event.Event.{Event}
 use Rattle.inc_model.specs.declared.words.event.Event.TheVariants.{Claim, Gate, PutPlace, Settle}
 use Rattle.inc_model.specs.declared.words.event.Window.{Window}
-use Rattle.inc_model.specs.declared.words.file_state.Stage.{Stage}
 use Rattle.inc_model.specs.declared.words.file_state.Stage.TheVariants.{Written}
 use Rattle.inc_model.specs.declared.words.reply.Entry.{Entry}
 use Rattle.inc_model.specs.declared.words.reply.Reply.{Reply}
@@ -21,7 +20,7 @@ use Rattle.inc_filling.specs.Stands.{events_of, stage_among}
 use Rattle.inc_filling.specs.declared.filling.Filling.{Filling}
 use Rattle.inc_filling.specs.declared.stop.FillStop.{FillStop}
 use Rattle.inc_filling.specs.declared.stop.FillStop.TheVariants as stop
-use Rattle.inc_handle.specs.UnderWay.{ClaimSteps, EachEnds, EndsWith, FillRuns, FinishSteps, IsUnclaimed, MayRelease, PutsAll, PutsSome, Releases, StopsIn, StopsWith, finish_events, finish_places, is_stored, release_entry, stored_among}
+use Rattle.inc_handle.specs.UnderWay.{ClaimSteps, EachEnds, EndsWith, FillRuns, FinishSteps, MayRelease, PutsAll, PutsSome, Releases, StopsIn, StopsWith, finish_events, finish_places, is_stored, release_entry, stored_among}
 use Rattle.inc_handle.specs.Fills.{FillsOwn, IsBrokenOwn, IsLastSettle, StoresAll, StoresOwnGroup, StoresSome, claim_event, claim_places, fill_entries, settle_entry, store_events}
 use Rattle.inc_handle.specs.declared.fill.window.PutEnd.{PutEnd}
 use Rattle.inc_handle.proofs.fills.Loops.{runs_as, stops_as}
@@ -197,6 +196,7 @@ module _ (file : CellFooting) (v : View CellFooting) (window : Window) (group : 
     ];
     each = each_since mid w (release_entry window ∷ []) (length (heard v)) window.who (puts_of file.opened window (take (length ends) group)) ends r.adds h.each;
     stored_are = h.stored_are;
+    begins = r.begins;
     legal = r.legal;
   }
 
@@ -213,6 +213,7 @@ module _ (file : CellFooting) (v : View CellFooting) (window : Window) (group : 
       | inl none ↦ inl none
       | inr e ↦ inr (last_settle mid w at h.runs.number_is r.adds e)
     ];
+    begins = r.begins;
     legal = r.legal;
   }
   fills_own (Err stop.DiskFault) mid w h r = broken stop.DiskFault mid w h r

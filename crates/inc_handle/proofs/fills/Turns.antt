@@ -1,5 +1,5 @@
 -- What one turn of a window's event makes of where its fill stands.
-use Rattle.std.proofs.Common.{◌≡◌, ◌≢◌, ◌⊎◌, inl, inr, ℕ, ◌+◌, ◌-◌, ◌<◌, ◌≤◌, Bool, true, false, cond, eqb, List, [], ◌∷◌, ◌++◌, length, Option, Some, None, refl, sym, ap, subst, ◌∙◌, arith}
+use Rattle.std.proofs.Common.{◌≡◌, ◌⊎◌, inl, inr, ℕ, ◌+◌, ◌-◌, ◌<◌, ◌≤◌, Bool, true, cond, List, [], ◌∷◌, ◌++◌, length, Option, Some, None, refl, sym, ap, subst, ◌∙◌, arith}
 use Rattle.std.specs.Prelude.{Result, Err}
 use Rattle.std.proofs.lemmas.Bool.{ne_eqb}
 use Rattle.std.proofs.lemmas.List.{map-append, append_cancel_left}
@@ -9,8 +9,8 @@ use Rattle.inc_model.specs.laws.HistoryLaws.{are_others}
 use Rattle.inc_model.specs.relation.Changes.{claims_after}
 use Rattle.inc_model.specs.relation.Facts.{FileFacts, MoreFacts}
 use Rattle.inc_model.specs.relation.State.{Claims, IsOpening, all_places, flight_row, places_left, spend}
-use Rattle.inc_model.specs.relation.Step.{Fits, HasRoom, IsEntry, IsKept, IsLegal, needs, needs_beside, state_after}
-use Rattle.inc_model.specs.relation.Table.{reply_of, unless_failed}
+use Rattle.inc_model.specs.relation.Step.{Fits, IsEntry, IsKept, IsLegal, needs, needs_beside}
+use Rattle.inc_model.specs.relation.Table.{unless_failed}
 use Rattle.inc_model.specs.declared.words.event.Event.{Event}
 use Rattle.inc_model.specs.declared.words.event.Window.{Window}
 use Rattle.inc_model.specs.declared.words.file_state.FileState.{FileState}
@@ -29,9 +29,8 @@ use Rattle.inc_turn.specs.Locks.{IsSameSeat, seat_view}
 use Rattle.inc_turn.specs.declared.seat.Seat.{Seat}
 use Rattle.inc_turn.proofs.SeatLemmas.{same_seat_twice}
 use Rattle.inc_turn.proofs.TurnLemmas.{adds_both, nothing_adds, turn_adds}
-use Rattle.inc_cell.specs.device.Device.{DeviceDoes}
 use Rattle.inc_cell.specs.events.Answers.{CellReplies}
-use Rattle.inc_cell.specs.events.CellEvents.{CellMoves, block_in, event_of, footing_of}
+use Rattle.inc_cell.specs.events.CellEvents.{CellMoves, block_in, event_left, event_of, footing_of}
 use Rattle.inc_cell.specs.events.Steps.{ReplyDoes}
 use Rattle.inc_cell.specs.laws.MachineLaws.{device_tells}
 use Rattle.inc_cell.specs.seen.Seen.{Seen, spots_now, state_now, tells}
@@ -41,7 +40,6 @@ use Rattle.inc_cell.specs.declared.words.answer.CellReply.{CellReply}
 use Rattle.inc_cell.specs.declared.words.answer.CellReply.TheVariants.{Done, HistoryFull, OutOfMemory}
 use Rattle.inc_cell.specs.declared.words.event.CellEvent.{CellEvent}
 use Rattle.inc_filling.specs.Stands.{events_of}
-use Rattle.inc_filling.specs.Stops.{going_on}
 use Rattle.inc_filling.specs.declared.stop.FillStop.{FillStop}
 use Rattle.inc_filling.specs.declared.stop.FillStop.TheVariants as stop
 use Rattle.inc_filling.proofs.lemmas.EventLemmas.{IsPlainReply, came, entry_of}
@@ -108,7 +106,7 @@ module _ (file : CellFooting) (start v w : View CellFooting) (window : Window) (
   plain = event_of t.before.opened event
 
   abbrev Does : Reply → Type 0
-  Does given = ReplyDoes t.before v.number plain (block_in event) given t.after
+  Does given = ReplyDoes t.before v.number plain (block_in event) given (event_left event t.before t.after)
 
   abbrev StandsIn : ℕ → (ℕ → Option Stage) → Seen → Type 0
   StandsIn left stages seen = WindowStands window left stages seen.opening (tells seen.states) seen.history
@@ -148,7 +146,7 @@ module _ (file : CellFooting) (start v w : View CellFooting) (window : Window) (
       none : needs (state_now t.before).claimed plain ≡ 0
       none = own ∙ needs_none (state_now t.before).claimed window some
 
-      by : (r : CellReply) → CellReplies t.before v.number plain (block_in event) r t.after → (given : Reply) × (r ≡ Done given) × Does given
+      by : (r : CellReply) → CellReplies t.before v.number plain (block_in event) r (event_left event t.before t.after) → (given : Reply) × (r ≡ Done given) × Does given
       by (Done given) r = (given, refl, r)
       by (HistoryFull entries claimed) r = absurd (r.no_room (let no = none in let low = within in omega arith))
       by OutOfMemory r = let no = none in let wanted = r.unclaimed in absurd (omega arith)

@@ -1,5 +1,5 @@
 -- What an ask leaves, by the reply of the cell.
-use Rattle.std.proofs.Common.{◌≡◌, ℕ, suc, ◌+◌, ◌<◌, ◌≤◌, ◌==◌, Bool, true, false, nat_le, List, [], ◌∷◌, ◌++◌, All, Option, Some, None, refl, sym, ap, subst, ◌∙◌, arith, ⊎_elim}
+use Rattle.std.proofs.Common.{◌≡◌, ℕ, suc, ◌+◌, ◌<◌, ◌≤◌, ◌==◌, Bool, true, false, nat_le, List, [], ◌∷◌, ◌++◌, length, length-append, All, Option, Some, None, refl, ap, subst, ◌∙◌, arith, ⊎_elim}
 use Rattle.std.proofs.lemmas.Bool.{cases_lt, eqb-true, eq-eqb, false_from_ne_true, leb-false}
 use Rattle.inc_pending.specs.Polling.{asked_row, is_asked, read_of}
 use Rattle.inc_pending.specs.Times.{times_of}
@@ -11,14 +11,14 @@ use Rattle.inc_model.specs.relation.State.{all_places, has, is_in}
 use Rattle.inc_model.specs.relation.Step.{Fits, IsHanded, IsLegal, IsPut, may_fail, needs, state_after}
 use Rattle.inc_model.specs.relation.Table.{ask_reply}
 use Rattle.inc_model.specs.declared.words.event.Event.{Event}
-use Rattle.inc_model.specs.declared.words.event.Event.TheVariants.{Ask, Leave}
+use Rattle.inc_model.specs.declared.words.event.Event.TheVariants.{Ask}
 use Rattle.inc_model.specs.declared.words.limits.TheConstants.{MOST_ENTRIES}
 use Rattle.inc_model.specs.declared.words.reply.Entry.{Entry}
 use Rattle.inc_model.specs.declared.words.reply.Reply.{Reply}
 use Rattle.inc_model.specs.declared.words.reply.Reply.TheVariants.{Asked, Compressed, Damaged, Fault, Handed, OutOfRange, Put}
 use Rattle.inc_model.proofs.runs.Histories.{after_one, legal_facts, legal_more}
 use Rattle.inc_cell.specs.events.Answers.{CellReplies, IsFullCell}
-use Rattle.inc_cell.specs.events.CellEvents.{footing_of}
+use Rattle.inc_cell.specs.events.CellEvents.{CellTakes, event_left, footing_of}
 use Rattle.inc_cell.specs.events.Steps.{ReplyDoes}
 use Rattle.inc_cell.specs.laws.Laws.{BeginsAs}
 use Rattle.inc_cell.specs.seen.Seen.{Seen, state_now, tells}
@@ -26,12 +26,12 @@ use Rattle.inc_cell.specs.declared.machine.CellFooting.{CellFooting}
 use Rattle.inc_cell.specs.declared.words.answer.Answer.{Answer}
 use Rattle.inc_cell.specs.declared.words.answer.CellReply.{CellReply}
 use Rattle.inc_cell.specs.declared.words.answer.CellReply.TheVariants.{Done, HistoryFull, OutOfMemory}
-use Rattle.inc_cell.specs.declared.words.event.CellEvent.TheVariants.{Plain}
+use Rattle.inc_cell.specs.declared.words.event.CellEvent.TheVariants.{AskEarly, Plain}
 use Rattle.inc_turn.specs.Turns.{AddsOwn}
 use Rattle.inc_turn.specs.Views.{heard}
 use Rattle.inc_turn.specs.declared.view.View.{View}
-use Rattle.inc_handle.specs.CellTurns.{CellTurn, entries_by}
-use Rattle.inc_handle.specs.Reads.{AskTold, AsksCell, HasAsked, IsAskReply, IsOverfull, LeavesNothing, ask_entry, asked_result}
+use Rattle.inc_handle.specs.CellTurns.{CellTurn, ask_event, entries_by}
+use Rattle.inc_handle.specs.Reads.{AskTold, AsksCell, HasAsked, IsAskReply, IsOverfull, ask_entry, asked_result}
 
 -- ---- a reply for which the device does nothing is the table's
 
@@ -86,14 +86,15 @@ read_new who next (r ∷ rows) row below here =
 
 -- ---- a history without room
 
-pub overfull : (footing : CellFooting) (w : View CellFooting) (before new : Seen) (event : Event) (entries claimed : ℕ) → needs (state_now before).claimed event ≡ 1
-    → w.footing ≡ Some footing → footing_of before ≡ footing → heard w ≡ before.history ++ [] → IsFullCell before event entries claimed new → IsOverfull w entries claimed
-overfull footing w before new event entries claimed one footing_is same heard_is full = record {
+pub overfull : (footing : CellFooting) (from : ℕ) (w : View CellFooting) (before new : Seen) (event : Event) (entries claimed : ℕ) → from ≤ length before.history → needs (state_now before).claimed event ≡ 1
+    → w.footing ≡ Some footing → footing_of before ≡ footing → heard w ≡ before.history ++ [] → IsFullCell before event entries claimed new → IsOverfull from w entries claimed
+overfull footing from w before new event entries claimed le one footing_is same heard_is full = record {
   footing = footing;
   front = before.history;
   rest = [];
   footing_is = footing_is;
   heard_is = heard_is;
+  since = le;
   entries_are = full.entries_are;
   claimed_are = full.claimed_are ∙ ap (λ (f : CellFooting). all_places (state_after 0 f.opening before.history).claimed) same;
   full =
@@ -103,6 +104,10 @@ overfull footing w before new event entries claimed one footing_is same heard_is
 }
 
 -- ---- the seat after a turn
+
+-- the cell has all that the seat has seen
+pub seen_before : (v : View CellFooting) (history between : List Entry) → history ≡ heard v ++ between → length (heard v) ≤ length history
+seen_before v history between told = omega (arith, ap (λ (es : List Entry). length es) told, length-append (heard v) between)
 
 pub footing_after : (footing : CellFooting) (v w : View CellFooting) (mine : List Entry) → AddsOwn v w mine → v.footing ≡ Some footing → w.footing ≡ Some footing
 footing_after footing v w mine adds is = ap (λ (x : View CellFooting). x.footing) adds.view_is ∙ is
@@ -146,30 +151,33 @@ asked_now footing v w before after index uid moment serial begins legal same doe
       };
     }
 
-told_by : (footing : CellFooting) (v w : View CellFooting) (before after : Seen) (index uid moment : ℕ) (reply : CellReply) → BeginsAs before.opened before.opening
+told_by : (footing : CellFooting) (v w : View CellFooting) (before after : Seen) (index uid moment : ℕ) (reply : CellReply) → length (heard v) ≤ length before.history → BeginsAs before.opened before.opening
     → IsLegal 0 (tells before.states) before.opening before.history → footing_of before ≡ footing → w.footing ≡ Some footing
     → CellReplies before v.number (Ask index uid moment) [] reply after → AddsOwn v w (entries_by v.number (Ask index uid moment) reply)
     → heard w ≡ before.history ++ entries_by v.number (Ask index uid moment) reply → AskTold footing v w index uid moment (asked_result reply)
-told_by footing v w before after index uid moment (Done OutOfRange) begins legal same is does adds heard_is = record { adds = adds }
-told_by footing v w before after index uid moment (Done Damaged) begins legal same is does adds heard_is = record { adds = adds }
-told_by footing v w before after index uid moment (Done Compressed) begins legal same is does adds heard_is = record { adds = adds }
-told_by footing v w before after index uid moment (Done (Asked serial)) begins legal same is does adds heard_is =
+told_by footing v w before after index uid moment (Done OutOfRange) le begins legal same is does adds heard_is = record { adds = adds }
+told_by footing v w before after index uid moment (Done Damaged) le begins legal same is does adds heard_is = record { adds = adds }
+told_by footing v w before after index uid moment (Done Compressed) le begins legal same is does adds heard_is = record { adds = adds }
+told_by footing v w before after index uid moment (Done (Asked serial)) le begins legal same is does adds heard_is =
     asked_now footing v w before after index uid moment serial begins legal same does adds heard_is
-told_by footing v w before after index uid moment (Done reply) begins legal same is does adds heard_is =
+told_by footing v w before after index uid moment (Done reply) le begins legal same is does adds heard_is =
     let s = state_now before in
     absurd (fits_ask (tells before.states) s.faults (nat_le s.n index) (has index s.damaged) (has index s.compressed) s.next reply does.step.allowed.fits).1
-told_by footing v w before after index uid moment (HistoryFull entries claimed) begins legal same is does adds heard_is =
-    (record { adds = adds }, overfull footing w before after (Ask index uid moment) entries claimed refl is same heard_is does)
-told_by footing v w before after index uid moment OutOfMemory begins legal same is does adds heard_is = record { adds = adds }
+told_by footing v w before after index uid moment (HistoryFull entries claimed) le begins legal same is does adds heard_is =
+    (record { adds = adds }, overfull footing (length (heard v)) w before after (Ask index uid moment) entries claimed le refl is same heard_is does)
+told_by footing v w before after index uid moment OutOfMemory le begins legal same is does adds heard_is = record { adds = adds }
 
 pub footing_same : (footing : CellFooting) (v : View CellFooting) (before : Seen) → Some (footing_of before) ≡ v.footing → v.footing ≡ Some footing → footing_of before ≡ footing
 footing_same footing v before floor is = some_footing (footing_of before) footing (floor ∙ is)
 
 -- what the asker is told is what its entry says
-pub ask_told : (footing : CellFooting) (v w : View CellFooting) (index uid moment : ℕ) (answer : Answer) → CellTurn v (Plain (Ask index uid moment)) answer w → v.footing ≡ Some footing
+pub ask_told : (footing : CellFooting) (v w : View CellFooting) (index uid moment : ℕ) (early : Bool) (answer : Answer) → CellTurn v (ask_event early index uid moment) answer w → v.footing ≡ Some footing
     → AskTold footing v w index uid moment (asked_result answer.reply)
-ask_told footing v w index uid moment answer t is =
-    told_by footing v w t.before t.after index uid moment answer.reply t.moves.begins t.moves.legal (footing_same footing v t.before t.floor is)
+ask_told footing v w index uid moment true answer t is =
+    told_by footing v w t.before (event_left (AskEarly index uid moment) t.before t.after) index uid moment answer.reply (seen_before v t.before.history t.between t.told) t.moves.begins t.moves.legal (footing_same footing v t.before t.floor is)
+    (footing_after footing v w _ t.adds is) t.moves.steps.reply_is t.adds t.heard_is
+ask_told footing v w index uid moment false answer t is =
+    told_by footing v w t.before (event_left (Plain (Ask index uid moment)) t.before t.after) index uid moment answer.reply (seen_before v t.before.history t.between t.told) t.moves.begins t.moves.legal (footing_same footing v t.before t.floor is)
     (footing_after footing v w _ t.adds is) t.moves.steps.reply_is t.adds t.heard_is
 
 asks_by : (before after : Seen) (who index uid moment : ℕ) (reply : CellReply) → CellReplies before who (Ask index uid moment) [] reply after → AsksCell reply
@@ -180,16 +188,11 @@ asks_by before after who index uid moment (HistoryFull entries claimed) does = t
 asks_by before after who index uid moment OutOfMemory does = tt
 
 -- an ask has these replies alone
-pub asks_cell : (v w : View CellFooting) (index uid moment : ℕ) (answer : Answer) → CellTurn v (Plain (Ask index uid moment)) answer w → AsksCell answer.reply
-asks_cell v w index uid moment answer t = asks_by t.before t.after v.number index uid moment answer.reply t.moves.steps.reply_is
+pub asks_cell : (v w : View CellFooting) (index uid moment : ℕ) (early : Bool) (answer : Answer) → CellTurn v (ask_event early index uid moment) answer w → AsksCell answer.reply
+asks_cell v w index uid moment true answer t = asks_by t.before (event_left (AskEarly index uid moment) t.before t.after) v.number index uid moment answer.reply t.moves.steps.reply_is
+asks_cell v w index uid moment false answer t = asks_by t.before (event_left (Plain (Ask index uid moment)) t.before t.after) v.number index uid moment answer.reply t.moves.steps.reply_is
 
--- ---- a reader that leaves a history without room
-
-pub leave_full : (v w : View CellFooting) (entries claimed : ℕ) (answer : Answer) → CellTurn v (Plain Leave) answer w → answer.reply ≡ HistoryFull entries claimed
-    → LeavesNothing v w × IsOverfull w entries claimed
-leave_full v w entries claimed answer t is =
-    let adds = rw is at t.adds in (
-      record { adds = adds },
-      overfull (footing_of t.before) w t.before t.after Leave entries claimed refl (footing_after (footing_of t.before) v w _ t.adds (sym t.floor)) refl (rw is at t.heard_is)
-          (rw is at t.moves.steps.reply_is),
-    )
+-- an ask is anybody's
+pub ask_taken : (who index uid moment : ℕ) (early : Bool) → CellTakes who (ask_event early index uid moment)
+ask_taken who index uid moment true = tt
+ask_taken who index uid moment false = tt

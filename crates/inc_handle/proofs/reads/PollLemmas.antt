@@ -1,5 +1,5 @@
 -- What a poll of a seat's own read leaves, by the reply of the cell.
-use Rattle.std.proofs.Common.{◌≡◌, if◌then◌else◌, ℕ, ◌+◌, Bool, true, false, nat_le, List, [], ◌∷◌, ◌++◌, length, Option, Some, None, is_some, slice_get, refl, sym, ap, subst, ◌∙◌}
+use Rattle.std.proofs.Common.{◌≡◌, if◌then◌else◌, ℕ, ◌+◌, ◌≤◌, arith, Bool, true, false, nat_le, List, [], ◌∷◌, ◌++◌, length, Option, Some, None, is_some, slice_get, refl, sym, ap, subst, ◌∙◌}
 use Rattle.std.proofs.lemmas.List.{append-nil}
 use Rattle.inc_pending.specs.Polling.{decision, read_of}
 use Rattle.inc_pending.specs.declared.reads.ReadRow.{ReadRow}
@@ -19,9 +19,10 @@ use Rattle.inc_model.specs.declared.words.reply.Reply.{Reply}
 use Rattle.inc_model.specs.declared.words.reply.Reply.TheVariants.{Fault, Handed, NoPath, NotYet, Put, TimedOut}
 use Rattle.inc_model.proofs.runs.Histories.{after_both, rest_legal}
 use Rattle.inc_model.proofs.runs.Others.{others_keep_reads}
+use Rattle.inc_cell.specs.device.Digested.{DigestedBlock}
 use Rattle.inc_cell.specs.device.Handed.{MayHand, unknown_hashes}
 use Rattle.inc_cell.specs.events.Answers.{CellReplies, hands_out}
-use Rattle.inc_cell.specs.events.CellEvents.{footing_of}
+use Rattle.inc_cell.specs.events.CellEvents.{event_left, footing_of}
 use Rattle.inc_cell.specs.laws.Laws.{BeginsAs}
 use Rattle.inc_cell.specs.seen.Seen.{Seen, state_now, tells}
 use Rattle.inc_cell.specs.declared.machine.CellFooting.{CellFooting}
@@ -37,9 +38,10 @@ use Rattle.inc_handle.specs.declared.reader.polling.Polled.TheVariants.{Crowded,
 use Rattle.inc_turn.specs.Views.{heard}
 use Rattle.inc_turn.specs.declared.view.View.{View}
 use Rattle.inc_handle.specs.CellTurns.{CellTurn, entries_by}
-use Rattle.inc_handle.specs.Reads.{AwaitEnds, LackedPath, WasLate, IsPollReply, LeavesNothing, PollEnds, PollTold, PolledAs, PollsCell, EntryStands, WaitsFor, poll_entry, polled_by}
+use Rattle.inc_handle.specs.Reads.{AwaitEnds, IsOverfull, LackedPath, WasLate, IsPollReply, LeavesNothing, PollEnds, PollTold, PolledAs, PollsCell, EntryStands, WaitsFor, poll_entry, polled_by}
 use Rattle.inc_handle.proofs.reads.MomentLemmas.{late_there, longer, path_lacks}
-use Rattle.inc_handle.proofs.reads.AskLemmas.{footing_after, footing_same, number_after, overfull}
+use Rattle.inc_handle.proofs.reads.AskLemmas.{footing_after, footing_same, number_after, overfull, seen_before}
+use Rattle.inc_handle.proofs.reads.SeenLemmas.{heard_grows}
 
 -- ---- the read is still there
 
@@ -91,7 +93,7 @@ last_stands : (entries : List Entry) (entry : Entry) → slice_get (entries ++ e
 last_stands [] entry = refl
 last_stands (first ∷ entries) entry = last_stands entries entry
 
-stands_last : (w : View CellFooting) (entries : List Entry) (entry : Entry) (at : ℕ) → heard w ≡ entries ++ entry ∷ [] → at ≡ length entries → EntryStands w at entry
+pub stands_last : (w : View CellFooting) (entries : List Entry) (entry : Entry) (at : ℕ) → heard w ≡ entries ++ entry ∷ [] → at ≡ length entries → EntryStands w at entry
 stands_last w entries entry at heard_is at_is = rw (at_is, heard_is) (last_stands entries entry)
 
 -- ---- what is told
@@ -112,6 +114,7 @@ record OnePoll (footing : CellFooting) (v w : View CellFooting) (before after : 
   told : w.footing ≡ Some footing
   number_is : w.number ≡ v.number
   at_is : at ≡ length before.history
+  seen_le : length (heard v) ≤ length before.history
   there : is_some handed ≡ hands_out reply
   hands : MayHand before v.number serial known reply handed
   does : CellReplies before v.number (Poll serial moment) [] reply after
@@ -211,12 +214,12 @@ told_by footing v w before after serial index moment known (Done (NoPath hash)) 
 told_by footing v w before after serial index moment known (Done (Fault count)) at handed p = ends_as v w before serial moment (Fault count) at p.adds p.heard_is p.at_is
 told_by footing v w before after serial index moment known (Done reply) at handed p = absurd (polled_right footing v w before after serial index moment known reply at handed p)
 told_by footing v w before after serial index moment known (HistoryFull entries claimed) at handed p =
-    (record { adds = p.adds }, overfull footing w before after (Poll serial moment) entries claimed refl p.told p.same p.heard_is p.does)
+    (record { adds = p.adds }, overfull footing (length (heard v)) w before after (Poll serial moment) entries claimed p.seen_le refl p.told p.same p.heard_is p.does)
 told_by footing v w before after serial index moment known OutOfMemory at handed p = record { adds = p.adds }
 
-one_poll : (footing : CellFooting) (v w : View CellFooting) (serial index moment : ℕ) (known : List ℕ) (answer : Answer) (t : CellTurn v (PollKnown serial moment known) answer w)
-    → v.footing ≡ Some footing → WaitsFor footing v serial index → OnePoll footing v w t.before t.after serial index moment known answer.reply answer.at answer.handed
-one_poll footing v w serial index moment known answer t is own =
+one_poll : (footing : CellFooting) (v w : View CellFooting) (serial index moment : ℕ) (known : List ℕ) (hint : Option DigestedBlock) (answer : Answer) (t : CellTurn v (PollKnown serial moment known hint) answer w)
+    → v.footing ≡ Some footing → WaitsFor footing v serial index → OnePoll footing v w t.before (event_left (PollKnown serial moment known hint) t.before t.after) serial index moment known answer.reply answer.at answer.handed
+one_poll footing v w serial index moment known hint answer t is own =
     let same = footing_same footing v t.before t.floor is in
     record {
       own = own;
@@ -227,6 +230,7 @@ one_poll footing v w serial index moment known answer t is own =
       told = footing_after footing v w _ t.adds is;
       number_is = number_after v w _ t.adds;
       at_is = t.moves.steps.at_is;
+      seen_le = seen_before v t.before.history t.between t.told;
       there = t.moves.steps.handed_there;
       hands = t.moves.hands;
       does = t.moves.steps.reply_is;
@@ -235,10 +239,10 @@ one_poll footing v w serial index moment known answer t is own =
     }
 
 -- what the asker is told is what its entry says, and its read waits on where there is none
-pub poll_told : (footing : CellFooting) (v w : View CellFooting) (serial index moment : ℕ) (known : List ℕ) (answer : Answer) (t : CellTurn v (PollKnown serial moment known) answer w)
+pub poll_told : (footing : CellFooting) (v w : View CellFooting) (serial index moment : ℕ) (known : List ℕ) (hint : Option DigestedBlock) (answer : Answer) (t : CellTurn v (PollKnown serial moment known hint) answer w)
     → v.footing ≡ Some footing → WaitsFor footing v serial index → PollTold footing v w serial index moment known (polled_by answer.reply moment answer.at answer.handed)
-poll_told footing v w serial index moment known answer t is own =
-    told_by footing v w t.before t.after serial index moment known answer.reply answer.at answer.handed (one_poll footing v w serial index moment known answer t is own)
+poll_told footing v w serial index moment known hint answer t is own =
+    told_by footing v w t.before (event_left (PollKnown serial moment known hint) t.before t.after) serial index moment known answer.reply answer.at answer.handed (one_poll footing v w serial index moment known hint answer t is own)
 
 polls_by : (footing : CellFooting) (v w : View CellFooting) (before after : Seen) (serial index moment : ℕ) (known : List ℕ) (reply : CellReply) (at : ℕ) (handed : Option HandedBytes)
     → OnePoll footing v w before after serial index moment known reply at handed → PollsCell reply
@@ -247,10 +251,10 @@ polls_by footing v w before after serial index moment known (HistoryFull entries
 polls_by footing v w before after serial index moment known OutOfMemory at handed p = tt
 
 -- a poll of a read that is there has these replies alone
-pub polls_cell : (footing : CellFooting) (v w : View CellFooting) (serial index moment : ℕ) (known : List ℕ) (answer : Answer) (t : CellTurn v (PollKnown serial moment known) answer w)
+pub polls_cell : (footing : CellFooting) (v w : View CellFooting) (serial index moment : ℕ) (known : List ℕ) (hint : Option DigestedBlock) (answer : Answer) (t : CellTurn v (PollKnown serial moment known hint) answer w)
     → v.footing ≡ Some footing → WaitsFor footing v serial index → PollsCell answer.reply
-polls_cell footing v w serial index moment known answer t is own =
-    polls_by footing v w t.before t.after serial index moment known answer.reply answer.at answer.handed (one_poll footing v w serial index moment known answer t is own)
+polls_cell footing v w serial index moment known hint answer t is own =
+    polls_by footing v w t.before (event_left (PollKnown serial moment known hint) t.before t.after) serial index moment known answer.reply answer.at answer.handed (one_poll footing v w serial index moment known hint answer t is own)
 
 -- ---- several polls
 
@@ -267,13 +271,29 @@ polled_since v v1 w serial moment reply at none polled =
 pub nothing_since : (v v1 w : View CellFooting) → LeavesNothing v v1 → LeavesNothing v1 w → LeavesNothing v w
 nothing_since v v1 w none more = record { adds = adds_both v v1 w [] [] none.adds more.adds }
 
+pub fewer_entries : (fewer from : ℕ) (w : View CellFooting) (entries claimed : ℕ) → fewer ≤ from → IsOverfull from w entries claimed → IsOverfull fewer w entries claimed
+fewer_entries fewer from w entries claimed le over =
+    let since = over.since in
+    record {
+      footing = over.footing;
+      front = over.front;
+      rest = over.rest;
+      footing_is = over.footing_is;
+      heard_is = over.heard_is;
+      since = omega (arith, le, since);
+      entries_are = over.entries_are;
+      claimed_are = over.claimed_are;
+      full = over.full;
+    }
+
 ends_since : (footing : CellFooting) (v v1 w : View CellFooting) (serial index moment : ℕ) (known : List ℕ) (polled : Polled) → LeavesNothing v v1
     → PollEnds footing v1 w serial index moment known polled → PollEnds footing v w serial index moment known polled
 ends_since footing v v1 w serial index moment known (Given handed at) none ends = (polled_since v v1 w serial moment (Handed handed.block.digest) at none ends.0, ends.1)
 ends_since footing v v1 w serial index moment known (Late deadline now at) none ends = (ends.0, polled_since v v1 w serial moment (TimedOut deadline) at none ends.1, ends.2)
 ends_since footing v v1 w serial index moment known (Pathless hash at) none ends = (polled_since v v1 w serial moment (NoPath hash) at none ends.0, ends.1)
 ends_since footing v v1 w serial index moment known (Faulted count at) none ends = polled_since v v1 w serial moment (Fault count) at none ends
-ends_since footing v v1 w serial index moment known (Crowded entries claimed) none ends = (nothing_since v v1 w none ends.0, ends.1)
+ends_since footing v v1 w serial index moment known (Crowded entries claimed) none ends =
+    (nothing_since v v1 w none ends.0, fewer_entries (length (heard v)) (length (heard v1)) w entries claimed (heard_grows v v1 [] none.adds) ends.1)
 ends_since footing v v1 w serial index moment known Starved none ends = nothing_since v v1 w none ends
 
 -- polls that left nothing, and one that ends

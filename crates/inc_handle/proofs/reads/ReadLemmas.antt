@@ -16,8 +16,11 @@ use Rattle.inc_turn.specs.declared.view.View.{View}
 use Rattle.inc_turn.proofs.ListLemmas.{entries_of_turns-append}
 use Rattle.inc_turn.proofs.TurnLemmas.{adds_both}
 use Rattle.inc_handle.specs.declared.reader.polling.Polled.TheVariants.{Given, Late, Pathless, Faulted, Crowded, Starved}
-use Rattle.inc_handle.specs.Reads.{AsksAndPolls, AsksThen, AskTold, AwaitEnds, CancelTold, GivesUp, HasAsked, IsOverfull, LackedPath, LeavesNothing, WasLate, PolledAs, ReadTold, ReadsEach, ShowTold, EntryStands, ask_entry, cancel_entry, poll_entry}
+use Rattle.inc_handle.specs.Answered.{ReadAnswers, ReadsEach}
+use Rattle.inc_handle.specs.Reads.{AsksAndPolls, AsksThen, AskTold, AwaitEnds, CancelTold, GivesUp, HasAsked, IsOverfull, LackedPath, LeavesNothing, WasLate, PolledAs, ReadTold, ShowTold, EntryStands, ask_entry, cancel_entry, poll_entry}
 use Rattle.inc_handle.proofs.reads.AskLemmas.{footing_after, number_after}
+use Rattle.inc_handle.proofs.reads.PollLemmas.{fewer_entries}
+use Rattle.inc_handle.proofs.reads.SeenLemmas.{heard_grows}
 
 module _ (may : ℕ → Type 0) (footing : CellFooting) where
   -- an ask, and what follows it
@@ -53,8 +56,8 @@ module _ (may : ℕ → Type 0) (footing : CellFooting) where
       }
 
 -- what was seen before is seen after a turn
-overfull_after : (w x : View CellFooting) (mine : List Entry) (entries claimed : ℕ) → AddsOwn w x mine → IsOverfull w entries claimed → IsOverfull x entries claimed
-overfull_after w x mine entries claimed adds over = record {
+overfull_after : (from : ℕ) (w x : View CellFooting) (mine : List Entry) (entries claimed : ℕ) → AddsOwn w x mine → IsOverfull from w entries claimed → IsOverfull from x entries claimed
+overfull_after from w x mine entries claimed adds over = record {
   footing = over.footing;
   front = over.front;
   rest = over.rest ++ entries_of_turns adds.since;
@@ -64,6 +67,7 @@ overfull_after w x mine entries claimed adds over = record {
       ∙ (ap (λ (es : List Entry). w.base ++ es) (entries_of_turns-append w.seen adds.since)
       ∙ (sym (append_assoc w.base (entries_of_turns w.seen) (entries_of_turns adds.since))
       ∙ (ap (λ (es : List Entry). es ++ entries_of_turns adds.since) over.heard_is ∙ append_assoc over.front over.rest (entries_of_turns adds.since))));
+  since = over.since;
   entries_are = over.entries_are;
   claimed_are = over.claimed_are;
   full = over.full;
@@ -126,7 +130,7 @@ module _ (may : ℕ → Type 0) (footing : CellFooting) (v v1 w : View CellFooti
   pub crowded_told : (x : View CellFooting) (known : List ℕ) (entries claimed : ℕ) → AwaitEnds may footing v1 w serial index known (Crowded entries claimed) → CancelTold w x serial
       → ReadTold may footing v x index uid (Err (refused.HistoryFull entries claimed))
   crowded_told x known entries claimed ended cancel = (
-    overfull_after w x cancel.cancelled entries claimed cancel.adds ended.ends.1,
+    fewer_entries (length (heard v)) (length (heard v1)) x entries claimed (heard_grows v v1 _ asked.adds) (overfull_after (length (heard v1)) w x cancel.cancelled entries claimed cancel.adds ended.ends.1),
     inr (serial, gives_up may footing v v1 w x index uid first serial [] possible asked ended.ends.0.adds cancel),
   )
 
@@ -146,10 +150,10 @@ refused_told may footing v w index uid moment error possible told = absurd told
 
 -- one read more
 pub one_read_more : (may : ℕ → Type 0) (footing : CellFooting) (v u w : View CellFooting) (index uid : ℕ) (answers : List (Result Found ReadError)) (answer : Result Found ReadError) (last : ℕ)
-    → last ≡ index + length answers → ReadsEach may footing v u index uid answers → ReadTold may footing u w last uid answer → ReadsEach may footing v w index uid (answers ++ answer ∷ [])
+    → last ≡ index + length answers → ReadsEach may footing v u index uid answers → ReadAnswers may footing u w last uid answer → ReadsEach may footing v w index uid (answers ++ answer ∷ [])
 one_read_more may footing v u w index uid [] answer last at same told =
     let here : last ≡ index = omega (arith, at) in
-    (w, subst (λ (x : View CellFooting). ReadTold may footing x w index uid answer) same (subst (λ (n : ℕ). ReadTold may footing u w n uid answer) here told), refl)
+    (w, subst (λ (x : View CellFooting). ReadAnswers may footing x w index uid answer) same (subst (λ (n : ℕ). ReadAnswers may footing u w n uid answer) here told), refl)
 one_read_more may footing v u w index uid (first ∷ answers) answer last at reads told =
     (reads.0, reads.1, one_read_more may footing reads.0 u w (index + 1) uid answers answer last (omega (arith, at)) reads.2 told)
 

@@ -17,7 +17,8 @@ use Rattle.inc_layout.specs.opening.Listed.{listed}
 use Rattle.inc_cell.specs.device.Handed.{is_known, unknown_hashes}
 use Rattle.inc_cell.specs.declared.machine.CellFooting.{CellFooting}
 use Rattle.inc_cache.specs.Known.{KnownBlocks, kept_levels, known_of, missing_levels, numbers_kept, path_numbers}
-use Rattle.inc_handle.specs.Reads.{CacheFits, IsOfCache, IsOfRead, IsShown, KnowsBlock, KnowsPathOf, ReadTold, ShowBreaks, numbers_known}
+use Rattle.inc_handle.specs.Caches.{CacheFits, IsCacheOf}
+use Rattle.inc_handle.specs.Reads.{IsOfCache, IsOfRead, IsShown, KnowsBlock, KnowsPathOf, ReadTold, ShowBreaks, numbers_known}
 use Rattle.inc_cache.specs.Kept.{CachedHashes}
 use Rattle.inc_cache.specs.Used.{kept_at}
 use Rattle.inc_model.specs.declared.words.outcomes.Found.{Found}
@@ -142,3 +143,12 @@ read_of_cache may footing v w index uid (Some cache) (Ok found) fits told = show
         → IsShown (sig_root footing.opened.sig) footing.opened.areas.geometry index digest shown → IsOfCache cache shown
     shown_of_cache cache (Proved block) digest fits shown = (some_root block.root cache.root (sym shown.0 ∙ fits.0), shown.1 ∙ sym fits.1)
     shown_of_cache cache (without_proof block) digest fits shown = tt
+
+-- ---- a reader's cache
+
+pub fitting_is_own : (footing : CellFooting) (cache : Option CachedHashes) → CacheFits footing cache → IsCacheOf footing cache
+fitting_is_own footing None fits = record { root_is = refl; shape_is = refl }
+fitting_is_own footing (Some cache) fits = record { root_is = sym fits.0; shape_is = fits.1 }
+
+pub own_fits : (footing : CellFooting) (cache : CachedHashes) → IsCacheOf footing (Some cache) → CacheFits footing (Some cache)
+own_fits footing cache own = (sym own.root_is, own.shape_is)

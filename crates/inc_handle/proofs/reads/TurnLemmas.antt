@@ -7,7 +7,7 @@ use Rattle.inc_model.specs.laws.HistoryLaws.{are_others}
 use Rattle.inc_model.specs.declared.words.event.Event.{Event}
 use Rattle.inc_model.specs.declared.words.reply.Entry.{Entry}
 use Rattle.inc_cell.specs.events.Answers.{CellReplies}
-use Rattle.inc_cell.specs.events.CellEvents.{block_in, event_of}
+use Rattle.inc_cell.specs.events.CellEvents.{block_in, event_left, event_of}
 use Rattle.inc_cell.specs.seen.Seen.{Seen}
 use Rattle.inc_cell.specs.declared.machine.CellFooting.{CellFooting}
 use Rattle.inc_cell.specs.declared.words.answer.Answer.{Answer}
@@ -37,7 +37,7 @@ others_of_turns number (Some entry ∷ turns) h =
 
 pub cell_turn : (v w : View CellFooting) (event : CellEvent) (answer : Answer) (t : TakesTurn v event answer w) → AddsOwn v w (added t.turn) → CellTurn v event answer w
 cell_turn v w event answer t adds =
-    let left = left_by t.before v.number (event_of t.before.opened event) (block_in event) answer.reply t.after t.stepped.steps.reply_is in
+    let left = left_by t.before v.number (event_of t.before.opened event) (block_in event) answer.reply (event_left event t.before t.after) t.stepped.steps.reply_is in
     let same = append_cancel_left t.before.history (added t.turn) (entries_by v.number (event_of t.before.opened event) answer.reply) (sym t.told_after ∙ left) in
     record {
       before = t.before;

@@ -4,23 +4,19 @@ ghost use Rattle.inc_bytes.specs.Tests.{first_failing, judge};
 ghost use Rattle.inc_tree.specs.shape.Geometry.{data_blocks, hash_blocks};
 ghost use Rattle.inc_cell.specs.events.Pieces.{kind_count, piece_index, piece_tests};
 ghost use Rattle.inc_handle.specs.Checks.{cause_order, first_cause, mark_tests, of_piece, piece_refusal, refusal_from};
-ghost use Rattle.inc_model.specs.relation.State.{has};
+ghost use Rattle.inc_model.specs.relation.State.{Rise, has};
 
 use crate::KnownFile;
 use inc_frame::Piece;
 use inc_model::FillError;
 use inc_tree::{BLOCK_SIZE, Geometry};
 
-/// Whether a list has an index.
+/// Whether a set has an index. It halves the list at each look.
 fn lists(indices: &[u32], index: u32) -> bool
+    requires rise { Rise indices.now }
     ensures value { result ≡ has index indices.now }
 {
-    for other in indices {
-        if index == *other {
-            return true;
-        }
-    }
-    false
+    indices.binary_search(&index).is_ok()
 }
 
 /// The index of a block, where the file has it.

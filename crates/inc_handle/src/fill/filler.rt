@@ -107,6 +107,7 @@ fn is_permitted(pass: &FillPass, id: Id, session: u32) -> bool
 }
 
 /// One who fills a file at a seat of its lock, in one session.
+#[derive(Drop)]
 pub struct Filler<'a, D: Disk> {
     file: &'a SharedFile<D>,
     seat: &'a mut FileSeat,

@@ -1,6 +1,6 @@
 // Pieces that are filled as one group.
 ghost use Rattle.std.specs.Prelude.{◌≡◌, ◌<◌, ◌≤◌, length, None, IfOk, is_some, IfSome};
-ghost use Rattle.inc_filling.specs.Contents.{block_of_piece, index_of_piece};
+ghost use Rattle.inc_filling.specs.Contents.{block_of_piece, index_of_piece, len_of_piece};
 ghost use Rattle.inc_filling.specs.Pieces.{AreTaken, StorePieces};
 ghost use Rattle.inc_filling.specs.Refusals.{refusal_of};
 
@@ -8,27 +8,35 @@ use super::checks::index_in;
 use crate::{KnownFile, OutOfMemory};
 use inc_cell::Digested;
 use inc_fill::padded;
-use inc_filling::Filling;
+use inc_filling::{Filling, join_fillings};
 use inc_frame::Piece;
+use inc_tree::Block;
 use std::alloc::Global;
 
-/// What a piece stores that the file takes: its bytes that count, filled up to a block and hashed.
-fn filling_of(alloc: Global, known: &KnownFile, piece: &Piece) -> Result<Filling, OutOfMemory>
+/// What a piece stores, before it is hashed: its first `len` bytes count.
+#[derive(Drop)]
+struct StoredPiece {
+    index: u32,
+    len: u32,
+    block: Block,
+}
+
+/// What a piece stores that the file takes: its bytes that count, filled up to a block.
+fn stored_of(alloc: Global, known: &KnownFile, piece: &Piece) -> Result<StoredPiece, OutOfMemory>
     requires taken { refusal_of known.now.opened.value piece.now ≡ None }
-    ensures index { IfOk result (λ filling. filling.index ≡ index_of_piece known.now.opened.value piece.now) }
-    ensures block { IfOk result (λ filling. filling.block.bytes ≡ block_of_piece known.now.opened.value piece.now) }
+    ensures index { IfOk result (λ stored. stored.index ≡ index_of_piece known.now.opened.value piece.now) }
+    ensures len { IfOk result (λ stored. stored.len ≡ len_of_piece known.now.opened.value piece.now) }
+    ensures most { IfOk result (λ stored. stored.len ≤ 4096) }
+    ensures block { IfOk result (λ stored. stored.block ≡ block_of_piece known.now.opened.value piece.now) }
 {
     let tree = &known.geometry;
     let index = index_in(tree, piece.hash, piece.number).unwrap();
     let len = tree.block_len(index);
     let block = padded(alloc, piece.bytes.as_slice(), len)?;
-    Ok(Filling {
-        index,
-        block: Digested::of(block, len),
-    })
+    Ok(StoredPiece { index, len, block })
 }
 
-/// What the pieces store, hashed before any turn.
+/// What the pieces store, hashed before any turn, four at once.
 pub(super) fn fillings_of(
     alloc: Global,
     known: &KnownFile,
@@ -37,10 +45,15 @@ pub(super) fn fillings_of(
     requires taken { AreTaken known.now.opened.value pieces.now }
     ensures stores { IfOk result (λ group. StorePieces known.now.opened.value group.items pieces.now) }
 {
-    let mut group = Vec::with_capacity(alloc, pieces.len())?;
+    let mut indices = Vec::with_capacity(alloc, pieces.len())?;
+    let mut lens = Vec::with_capacity(alloc, pieces.len())?;
+    let mut blocks = Vec::with_capacity(alloc, pieces.len())?;
     for at in 0..pieces.len() {
-        let filling = filling_of(alloc, known, &pieces[at])?;
-        group.push(filling)?;
+        let stored = stored_of(alloc, known, &pieces[at])?;
+        indices.push(stored.index)?;
+        lens.push(stored.len)?;
+        blocks.push(stored.block)?;
     }
-    Ok(group)
+    let hashed = Digested::group(alloc, blocks, lens.as_slice())?;
+    join_fillings(alloc, indices.as_slice(), hashed)
 }

@@ -1,9 +1,11 @@
 // A read through the reader's cache.
-ghost use Rattle.std.specs.Prelude.{◌≡◌, ◌<◌, ◌≤◌, Some, None, IfOk};
+ghost use Rattle.std.specs.Prelude.{◌≡◌, ◌<◌, ◌≤◌, Some, None, IfOk, OnOk, OnErr};
 ghost use Rattle.inc_tree.specs.shape.Geometry.{data_blocks};
 ghost use Rattle.inc_cell.specs.declared.machine.CellFooting.{CellFooting};
 ghost use Rattle.inc_cell.specs.events.CellEvents.{footing_of};
-ghost use Rattle.inc_handle.specs.Reads.{CacheFits, IsOfCache, IsOfRead, KnowsPathOf, ReadRefused, ReadTold};
+ghost use Rattle.inc_handle.specs.Answered.{HasSeenLegal, ReadAnswers};
+ghost use Rattle.inc_handle.specs.Caches.{CacheFits, IsCacheOf};
+ghost use Rattle.inc_handle.specs.Reads.{IsOfCache, IsOfRead, KnowsPathOf, ReadRefused};
 ghost use Rattle.inc_turn.specs.Locks.{IsSameSeat, lock_of, seat_view, table_of};
 
 use crate::reader::asking::ask;
@@ -21,10 +23,7 @@ use std::sync::Wait;
 const CACHED_HASH_BLOCKS: usize = 64;
 
 /// An empty cache, where the file is signed.
-pub fn cache_for<D: Disk>(
-    alloc: Global,
-    file: &SharedFile<D>,
-) -> Result<Option<HashCache>, OutOfMemory>
+fn cache_for<D: Disk>(alloc: Global, file: &SharedFile<D>) -> Result<Option<HashCache>, OutOfMemory>
     ensures fits { IfOk result (λ cache. CacheFits (footing_of file.now.begun.value) cache) }
 {
     match file.root() {
@@ -34,6 +33,22 @@ pub fn cache_for<D: Disk>(
         }
         None => Ok(None),
     }
+}
+
+/// Makes the cache of a signed file, where the reader has none yet.
+fn ready_cache<D: Disk>(
+    alloc: Global,
+    file: &SharedFile<D>,
+    cache: &mut Option<HashCache>,
+) -> Result<(), OutOfMemory>
+    requires of_file { IsCacheOf (footing_of file.now.begun.value) cache.old }
+    ensures fits { OnOk result (CacheFits (footing_of file.now.begun.value) cache.new) }
+    ensures same { OnErr result (cache.new ≡ cache.old) }
+{
+    if cache.is_none() {
+        *cache = cache_for(alloc, file)?;
+    }
+    Ok(())
 }
 
 /// What is kept of a block's path.
@@ -93,10 +108,11 @@ fn refused_past<D: Disk, R: Wait, C: Clock>(
     requires footing { (seat_view seat.old).footing ≡ Some (footing_of file.now.begun.value) }
     requires past { data_blocks file.now.begun.value.opened.areas.geometry ≤ index }
     ensures own { IsSameSeat seat.old seat.new }
+    ensures legal { HasSeenLegal (footing_of file.now.begun.value) (seat_view seat.new) }
     ensures told { ReadRefused (C.may_answer clock.now) (footing_of file.now.begun.value) (seat_view seat.old) (seat_view seat.new) index uid result }
 {
     let now = clock.now();
-    match ask(rt, file, seat, index, uid, now) {
+    match ask(rt, file, seat, index, uid, now, false) {
         Ok(_) => unreachable!(),
         Err(error) => error,
     }
@@ -110,26 +126,30 @@ pub fn read_cached<D: Disk, R: Wait, C: Clock, B: Bell>(
     seat: &mut FileSeat,
     uid: u32,
     cache: &mut Option<HashCache>,
+    early: bool,
     index: u32,
     clock: &C,
     bell: &B,
 ) -> Result<Found, ReadError>
     requires own { lock_of seat.old ≡ table_of file.now.lock }
     requires footing { (seat_view seat.old).footing ≡ Some (footing_of file.now.begun.value) }
-    requires fits { CacheFits (footing_of file.now.begun.value) cache.old }
+    requires of_file { IsCacheOf (footing_of file.now.begun.value) cache.old }
     ensures own { IsSameSeat seat.old seat.new }
     ensures footing { (seat_view seat.new).footing ≡ Some (footing_of file.now.begun.value) }
-    ensures fits { CacheFits (footing_of file.now.begun.value) cache.new }
-    ensures told { ReadTold (C.may_answer clock.now) (footing_of file.now.begun.value) (seat_view seat.old) (seat_view seat.new) index uid result }
+    ensures of_file { IsCacheOf (footing_of file.now.begun.value) cache.new }
+    ensures answers { ReadAnswers (C.may_answer clock.now) (footing_of file.now.begun.value) (seat_view seat.old) (seat_view seat.new) index uid result }
 {
     if index >= file.geometry().data_blocks() {
         return Err(refused_past(rt, file, seat, uid, index, clock));
+    }
+    if let Err(_) = ready_cache(alloc, file, cache) {
+        return Err(ReadError::OutOfMemory);
     }
     let known = match known_in(alloc, file, cache, index) {
         Ok(known) => known,
         Err(_) => return Err(ReadError::OutOfMemory),
     };
-    let result = read_with(rt, file, seat, index, uid, known, clock, bell);
+    let result = read_with(rt, file, seat, index, uid, known, early, clock, bell);
     keep_read(alloc, cache, &result);
     result
 }

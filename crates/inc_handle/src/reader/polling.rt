@@ -2,12 +2,13 @@
 ghost use Rattle.std.specs.Prelude.{◌≡◌, ℕ, Some, is_some};
 ghost use Rattle.inc_cell.specs.events.Answers.{hands_out};
 ghost use Rattle.inc_cell.specs.events.CellEvents.{footing_of};
+ghost use Rattle.inc_handle.specs.Answered.{HasSeenLegal};
 ghost use Rattle.inc_handle.specs.Reads.{AwaitEnds, PollTold, PollsCell, WaitsFor, polled_by};
 ghost use Rattle.inc_turn.specs.Locks.{IsSameSeat, lock_of, seat_view, table_of};
 
 use crate::cell_turn::take_turn;
 use crate::{FileSeat, SharedFile};
-use inc_cell::{Answer, CellEvent, CellReply, HandedBytes, NumberList};
+use inc_cell::{Answer, CellEvent, CellReply, Digested, HandedBytes, NumberList};
 use inc_disk::Disk;
 use inc_io::{Bell, Clock};
 use inc_model::Reply;
@@ -36,7 +37,8 @@ pub struct OwnRead {
     pub block: u32,
 }
 
-/// Polls a read once, without those hash blocks of the path that are known. Nothing comes of it where the read has to wait on.
+/// Polls a read once, without those hash blocks of the path that are known. Nothing comes of it where the read has to wait on. Where
+/// the block has the bytes of the hint it isn't hashed under the lock.
 pub fn poll_once<D: Disk, R: Wait>(
     rt: &R,
     file: &SharedFile<D>,
@@ -44,17 +46,20 @@ pub fn poll_once<D: Disk, R: Wait>(
     read: OwnRead,
     now: u64,
     known: NumberList,
+    hint: Option<Digested>,
 ) -> Option<Polled>
     requires own { lock_of seat.old ≡ table_of file.now.lock }
     requires footing { (seat_view seat.old).footing ≡ Some (footing_of file.now.begun.value) }
     requires waits { WaitsFor (footing_of file.now.begun.value) (seat_view seat.old) read.serial read.block }
     ensures own { IsSameSeat seat.old seat.new }
+    ensures legal { HasSeenLegal (footing_of file.now.begun.value) (seat_view seat.new) }
     ensures told { PollTold (footing_of file.now.begun.value) (seat_view seat.old) (seat_view seat.new) read.serial read.block now known result }
 {
     let event = CellEvent::PollKnown {
         serial: read.serial,
         now,
         known,
+        hint,
     };
     told(take_turn(rt, file, seat, event), now)
 }
@@ -65,7 +70,12 @@ fn told(answer: Answer, now: u64) -> Option<Polled>
     requires handed { is_some answer.handed ≡ hands_out answer.reply }
     ensures value { result ≡ polled_by answer.reply now answer.at answer.handed }
 {
-    let Answer { reply, at, handed } = answer;
+    let Answer {
+        reply,
+        at,
+        handed,
+        ..
+    } = answer;
     match reply {
         CellReply::Done(Reply::NotYet) => None,
         CellReply::Done(Reply::Handed { .. }) => match handed {
@@ -84,13 +94,15 @@ fn told(answer: Answer, now: u64) -> Option<Polled>
 /// How long a reader rests before it looks again, in microseconds, unless the bell rings.
 const REST: u64 = 1000;
 
-/// Polls a read until it ends, and rests in between.
+/// Polls a read until it ends, and rests in between. The hint goes with the first poll, since a block whose bytes were there at the ask is
+/// there then.
 pub fn await_block<D: Disk, R: Wait, C: Clock, B: Bell>(
     rt: &R,
     file: &SharedFile<D>,
     seat: &mut FileSeat,
     read: OwnRead,
     known: NumberList,
+    hint: Option<Digested>,
     clock: &C,
     bell: &B,
 ) -> Polled
@@ -98,12 +110,14 @@ pub fn await_block<D: Disk, R: Wait, C: Clock, B: Bell>(
     requires footing { (seat_view seat.old).footing ≡ Some (footing_of file.now.begun.value) }
     requires waits { WaitsFor (footing_of file.now.begun.value) (seat_view seat.old) read.serial read.block }
     ensures own { IsSameSeat seat.old seat.new }
+    ensures legal { HasSeenLegal (footing_of file.now.begun.value) (seat_view seat.new) }
     ensures told { AwaitEnds (C.may_answer clock.now) (footing_of file.now.begun.value) (seat_view seat.old) (seat_view seat.new) read.serial read.block known result }
 {
+    let mut hint = hint;
     for _ in rt.forever() {
         let rings = bell.seen();
         let now = clock.now();
-        match poll_once(rt, file, seat, read, now, known) {
+        match poll_once(rt, file, seat, read, now, known, hint.take()) {
             Some(polled) => return polled,
             None => bell.rest(rings, now.saturating_add(REST)),
         }

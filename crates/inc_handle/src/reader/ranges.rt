@@ -1,7 +1,8 @@
 // Several blocks, one after the other.
 ghost use Rattle.std.specs.Prelude.{◌≡◌, ◌+◌, ◌^◌, ◌≤◌, Some, IfOk, OnErr, length};
 ghost use Rattle.inc_cell.specs.events.CellEvents.{footing_of};
-ghost use Rattle.inc_handle.specs.Reads.{CacheFits, ReadsEach};
+ghost use Rattle.inc_handle.specs.Answered.{ReadsEach};
+ghost use Rattle.inc_handle.specs.Caches.{IsCacheOf};
 ghost use Rattle.inc_turn.specs.Locks.{IsSameSeat, lock_of, seat_view, table_of};
 
 use crate::reader::caching::read_cached;
@@ -21,6 +22,7 @@ pub fn read_each<D: Disk, R: Wait, C: Clock, B: Bell>(
     seat: &mut FileSeat,
     uid: u32,
     cache: &mut Option<HashCache>,
+    early: bool,
     start: u32,
     count: u32,
     clock: &C,
@@ -28,11 +30,11 @@ pub fn read_each<D: Disk, R: Wait, C: Clock, B: Bell>(
 ) -> Result<Vec<Result<Found, ReadError>>, OutOfMemory>
     requires own { lock_of seat.old ≡ table_of file.now.lock }
     requires footing { (seat_view seat.old).footing ≡ Some (footing_of file.now.begun.value) }
-    requires fits { CacheFits (footing_of file.now.begun.value) cache.old }
+    requires of_file { IsCacheOf (footing_of file.now.begun.value) cache.old }
     requires range { start + count ≤ 2 ^ 32 }
     ensures own { IsSameSeat seat.old seat.new }
     ensures footing { (seat_view seat.new).footing ≡ Some (footing_of file.now.begun.value) }
-    ensures fits { CacheFits (footing_of file.now.begun.value) cache.new }
+    ensures of_file { IsCacheOf (footing_of file.now.begun.value) cache.new }
     ensures count { IfOk result (λ answers. length answers.items ≡ count) }
     ensures told { IfOk result (λ answers. ReadsEach (C.may_answer clock.now) (footing_of file.now.begun.value) (seat_view seat.old) (seat_view seat.new) start uid answers.items) }
     ensures none { OnErr result (seat_view seat.new ≡ seat_view seat.old) }
@@ -40,7 +42,9 @@ pub fn read_each<D: Disk, R: Wait, C: Clock, B: Bell>(
     let mut answers = Vec::with_capacity(alloc, count as usize)?;
     for offset in 0..count {
         let index = start + offset;
-        answers.push_reserved(read_cached(rt, alloc, file, seat, uid, cache, index, clock, bell));
+        answers.push_reserved(read_cached(
+            rt, alloc, file, seat, uid, cache, early, index, clock, bell,
+        ));
     }
     Ok(answers)
 }

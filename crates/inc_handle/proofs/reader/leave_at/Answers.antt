@@ -1,5 +1,9 @@
-use Rattle.inc_handle.proofs.reads.AskLemmas.{leave_full}
+use Rattle.inc_handle.proofs.reads.LeaveLemmas.{leave_told}
+use Rattle.inc_handle.proofs.reads.SeenLemmas.{turn_legal}
 use Rattle.inc_handle.proofs.reader.leave_at.Goals as goal
 
-pub returns-in-HistoryFull-clause-told : goal.returns-in-HistoryFull-clause-told
-returns-in-HistoryFull-clause-told g c = leave_full _ _ _ _ _ c.take_turn-answer.ensures.turn c.in-HistoryFull.is
+pub returns-clause-legal : goal.returns-clause-legal
+returns-clause-legal g c = λ known is. turn_legal known _ _ _ _ c.take_turn.ensures.turn is
+
+pub returns-clause-told : goal.returns-clause-told
+returns-clause-told g c = rw c.left.ensures.value (leave_told _ _ _ c.take_turn.ensures.turn)

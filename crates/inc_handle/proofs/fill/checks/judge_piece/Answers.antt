@@ -1,13 +1,13 @@
-use Rattle.std.proofs.Common.{◌≡◌, ℕ, ◌+◌, ◌<◌, Bool, true, false, List, length, sym, ap, subst, ◌∙◌, arith}
+use Rattle.std.proofs.Common.{◌≡◌, ℕ, ◌+◌, ◌<◌, Bool, true, false, List, length, sym, ap, subst, ◌∙◌}
 use Rattle.std.specs.Prelude.{nat_lt}
 use Rattle.inc_bytes.specs.Tests.{first_failing, judge}
 use Rattle.inc_tree.specs.shape.Geometry.{Shape, block_len, data_blocks, hash_blocks}
 use Rattle.inc_entry.specs.Stored.{is_compressed_class, is_damaged_class}
 use Rattle.inc_layout.specs.state.Reopening.{indices_passing}
-use Rattle.inc_model.specs.relation.State.{has}
+use Rattle.inc_model.specs.relation.State.{Rise, has}
 use Rattle.inc_cell.specs.events.Pieces.{kind_count, piece_index}
 use Rattle.inc_handle.specs.Checks.{mark_tests}
-use Rattle.inc_handle.proofs.fills.Checked.{judged, out_of_range}
+use Rattle.inc_handle.proofs.told.Checked.{judged, out_of_range, passing_rise}
 use Rattle.inc_handle.proofs.fill.checks.judge_piece.Goals as goal
 
 pub returns-in_default : goal.returns-in_default
@@ -17,6 +17,16 @@ returns-in_default c =
     let past : nat_lt piece.number (kind_count known.opened.value.areas.geometry piece.hash) ≡ false =
     ap (λ (shape : Shape). nat_lt piece.number (kind_count shape piece.hash)) (sym known.geometry_is) ∙ sym c.in_default.ensures.there in
     record { value = sym (ap (λ found. judge found tt) (out_of_range known.opened.value piece.hash piece.number piece.compression (length piece.bytes) past)) }
+
+pub lists-damaged-requires : goal.lists-damaged-requires
+lists-damaged-requires c =
+    let known = c.args.known.now in
+    record { rise = subst Rise (sym (c.as_slice.ensures.value ∙ known.damaged_is)) (passing_rise is_damaged_class 0 known.opened.value.classes) }
+
+pub lists-compressed-requires : goal.lists-compressed-requires
+lists-compressed-requires c =
+    let known = c.args.known.now in
+    record { rise = subst Rise (sym (c.as_slice-2.ensures.value ∙ known.compressed_is)) (passing_rise is_compressed_class 0 known.opened.value.classes) }
 
 pub returns : goal.returns
 returns c =

@@ -2,7 +2,7 @@ use Rattle.std.proofs.Common.{◌≡◌, ℕ, ◌+◌, ◌-◌, ◌<◌, length,
 use Rattle.inc_model.specs.declared.words.outcomes.FillError.{FillError}
 use Rattle.std.specs.Prelude.{Option}
 use Rattle.inc_handle.specs.Checks.{first_cause, refusal_from}
-use Rattle.inc_handle.proofs.fills.Counted.{refusal_more}
+use Rattle.inc_handle.proofs.told.Counted.{refusal_more}
 use Rattle.inc_handle.proofs.fill.checks.refusal_of_pieces.Goals as goal
 
 pub loop-back-preserved : goal.loop-back-preserved

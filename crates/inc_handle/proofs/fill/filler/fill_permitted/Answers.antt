@@ -2,7 +2,7 @@ use Rattle.std.proofs.Common.{◌≡◌, None, sym, subst}
 use Rattle.inc_layout.specs.declared.opened.Opened.{Opened}
 use Rattle.inc_filling.specs.Pieces.{AreTaken}
 use Rattle.inc_handle.specs.Outcomes.{fill_refusal}
-use Rattle.inc_handle.proofs.fills.Taken.{permitted_taken}
+use Rattle.inc_handle.proofs.told.Taken.{permitted_taken}
 use Rattle.inc_handle.proofs.fill.filler.fill_permitted.Goals as goal
 
 pub fill_taken-requires-clause-taken : goal.fill_taken-requires-clause-taken

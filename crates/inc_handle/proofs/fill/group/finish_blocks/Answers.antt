@@ -1,4 +1,4 @@
-use Rattle.std.proofs.Common.{◌+◌, ◌-◌, ◌++◌, ℕ, length, sym, subst, arith}
+use Rattle.std.proofs.Common.{◌+◌, ◌++◌, ℕ, length, sym, subst, arith}
 use Rattle.std.specs.Prelude.{Result}
 use Rattle.std.proofs.lemmas.Result.{err_from_is_err_and}
 use Rattle.inc_model.specs.declared.words.file_state.Stage.TheVariants.{Gated, Placed}

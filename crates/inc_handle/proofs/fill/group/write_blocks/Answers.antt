@@ -1,19 +1,15 @@
-use Rattle.std.proofs.Common.{◌≡◌, ℕ, List, ◌+◌, ◌-◌, ◌<◌, ◌≤◌, ◌++◌, ◌∷◌, [], cond, None, length, get_or, take, refl, sym, ap, subst, ◌∙◌, arith, rules}
-use Rattle.std.specs.Prelude.{Result, if◌then◌else◌}
+use Rattle.std.proofs.Common.{◌≡◌, ℕ, List, ◌+◌, ◌-◌, ◌++◌, ◌∷◌, [], cond, length, take, sym, ap, subst, ◌∙◌, arith, rules}
+use Rattle.std.specs.Prelude.{Result}
 use Rattle.std.proofs.lemmas.Iterator.Adapters.{YieldsList-from_vec}
 use Rattle.std.proofs.lemmas.Iterator.Consumers.{YieldsList-end, YieldsList-turn}
 use Rattle.std.proofs.lemmas.List.{length_push}
 use Rattle.std.proofs.lemmas.Result.{err_from_is_err_and}
-use Rattle.inc_model.specs.declared.words.event.Event.{Event}
 use Rattle.inc_model.specs.declared.words.file_state.Stage.TheVariants.{Written}
 use Rattle.inc_turn.specs.Locks.{seat_view}
-use Rattle.inc_turn.specs.declared.view.View.{View}
-use Rattle.inc_cell.specs.declared.machine.CellFooting.{CellFooting}
-use Rattle.inc_filling.specs.Grouped.{AreDistinct, group_indices, puts_of}
+use Rattle.inc_filling.specs.Grouped.{puts_of}
 use Rattle.inc_filling.specs.Stands.{stage_among}
-use Rattle.inc_filling.specs.declared.filling.Filling.{Filling}
 use Rattle.inc_filling.specs.declared.stop.FillStop.{FillStop}
-use Rattle.inc_handle.specs.UnderWay.{FillRuns, PutsFirst, PutsOwnGroup, PutsSome, is_stored}
+use Rattle.inc_handle.specs.UnderWay.{PutsFirst, PutsOwnGroup, PutsSome, is_stored}
 use Rattle.inc_handle.specs.declared.fill.window.PutEnd.{PutEnd}
 use Rattle.inc_handle.proofs.fills.PutLoops.{may_next, put_all, put_broke, put_more, put_none}
 use Rattle.inc_handle.proofs.fills.Turns.{gone_nowhere, gone_twice}

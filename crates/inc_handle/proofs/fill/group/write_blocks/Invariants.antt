@@ -1,4 +1,4 @@
-use Rattle.std.proofs.Common.{◌≡◌, ℕ, List, ◌+◌, ◌≤◌, None, length, vec_len}
+use Rattle.std.proofs.Common.{ℕ, List, ◌+◌, ◌≤◌, None, length, vec_len}
 use Rattle.std.specs.Prelude.{vec_capacity}
 use Rattle.inc_model.specs.declared.words.event.Event.{Event}
 use Rattle.inc_turn.specs.Locks.{seat_view}

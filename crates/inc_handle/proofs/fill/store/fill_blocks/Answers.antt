@@ -1,10 +1,10 @@
-use Rattle.std.proofs.Common.{◌≡◌, ℕ, [], ◌∷◌, ◌+◌, ◌*◌, ◌<◌, None, length, sym, subst, ◌∙◌, arith}
+use Rattle.std.proofs.Common.{ℕ, [], ◌∷◌, length, sym, subst, ◌∙◌, arith}
 use Rattle.std.specs.Prelude.{Result, Err}
 use Rattle.std.proofs.lemmas.Result.{err_from_is_err_and}
 use Rattle.inc_model.specs.declared.words.reply.Reply.{Reply}
 use Rattle.inc_turn.specs.Locks.{seat_view}
 use Rattle.inc_filling.specs.declared.stop.FillStop.{FillStop}
-use Rattle.inc_handle.specs.Fills.{FillsOwn, claim_event, claim_places}
+use Rattle.inc_handle.specs.Fills.{FillsOwn, claim_event}
 use Rattle.inc_handle.proofs.fills.Stores.{claimed_now, fills_own, may_release, unclaimed}
 use Rattle.inc_handle.proofs.fills.Turns.{gone_twice}
 use Rattle.inc_handle.proofs.fill.store.fill_blocks.Goals as goal

@@ -1,11 +1,11 @@
-use Rattle.std.proofs.Common.{◌≡◌, ℕ, zero, suc, List, [], ◌∷◌, refl, ◌+◌, ◌<◌, ◌++◌, length, sym, ap, subst, ◌∙◌, arith}
+use Rattle.std.proofs.Common.{◌≡◌, ℕ, zero, suc, List, [], ◌∷◌, refl, ◌<◌, ◌++◌, length, sym, ap, subst, ◌∙◌, arith}
 use Rattle.std.specs.Prelude.{Result}
 use Rattle.std.proofs.lemmas.Bool.{eqb-false, eqb-true}
 use Rattle.std.proofs.lemmas.Result.{err_from_is_err_and}
 use Rattle.inc_turn.specs.Locks.{seat_view}
 use Rattle.inc_filling.specs.Grouped.{puts_of}
 use Rattle.inc_filling.specs.declared.stop.FillStop.{FillStop}
-use Rattle.inc_handle.specs.UnderWay.{FinishSteps, PutsAll, finish_events, finish_places}
+use Rattle.inc_handle.specs.UnderWay.{PutsAll, finish_places}
 use Rattle.inc_handle.specs.Fills.{StoresOwnGroup, StoresSome}
 use Rattle.inc_handle.proofs.fills.Stores.{finish_stores, none_stored, puts_broke, to_finish}
 use Rattle.inc_handle.proofs.fills.Turns.{gone_twice}

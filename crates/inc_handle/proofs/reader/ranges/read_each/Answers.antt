@@ -10,11 +10,11 @@ loop-offset-preserved g c =
     record {
       same = same_seat_twice _ _ _ invariant.same c.read_cached.ensures.own;
       footing = c.read_cached.ensures.footing;
-      fits = c.read_cached.ensures.fits;
+      of_file = c.read_cached.ensures.of_file;
       at = c.push_reserved.ensures.len ∙ ap (λ (n : ℕ). n + 1) invariant.at;
       items = rw c.push_reserved.ensures.items (length_push _ _ ∙ ap (λ (n : ℕ). n + 1) invariant.items);
       room = c.push_reserved.ensures.capacity ∙ invariant.room;
       told =
           rw c.push_reserved.ensures.items
-          (one_read_more (g.C.Clock.may_answer c.args.clock.now) _ _ _ _ _ _ _ _ _ (ap (λ (n : ℕ). c.args.start + n) (sym invariant.items)) invariant.told c.read_cached.ensures.told);
+          (one_read_more (g.C.Clock.may_answer c.args.clock.now) _ _ _ _ _ _ _ _ _ (ap (λ (n : ℕ). c.args.start + n) (sym invariant.items)) invariant.told c.read_cached.ensures.answers);
     }

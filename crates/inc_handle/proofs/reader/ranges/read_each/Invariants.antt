@@ -1,6 +1,7 @@
 use Rattle.std.proofs.Common.{◌≡◌, Some, length, vec_capacity, vec_len}
 use Rattle.inc_cell.specs.events.CellEvents.{footing_of}
-use Rattle.inc_handle.specs.Reads.{CacheFits, ReadsEach}
+use Rattle.inc_handle.specs.Answered.{ReadsEach}
+use Rattle.inc_handle.specs.Caches.{IsCacheOf}
 use Rattle.inc_turn.specs.Locks.{IsSameSeat, seat_view}
 use Rattle.inc_handle.proofs.reader.ranges.read_each.Given as goal
 
@@ -8,7 +9,7 @@ abbrev pub invariant-loop-offset : goal.invariant-loop-offset
 invariant-loop-offset g l = record {
   same : IsSameSeat l.fn.seat l.seat;
   footing : (seat_view l.seat).footing ≡ Some (footing_of l.file.begun.value);
-  fits : CacheFits (footing_of l.file.begun.value) l.cache;
+  of_file : IsCacheOf (footing_of l.file.begun.value) l.cache;
   at : vec_len l.answers ≡ l.offset;
   items : length l.answers.items ≡ l.offset;
   room : vec_capacity l.answers ≡ l.count;

@@ -1,14 +1,13 @@
-use Rattle.std.proofs.Common.{◌≡◌, ℕ, true, ◌<◌, ◌≤◌, Option, Some, None, List, length, take, refl, sym, ap, subst, ◌∙◌, arith}
+use Rattle.std.proofs.Common.{◌≡◌, ℕ, true, ◌<◌, Option, Some, None, List, take, refl, sym, ap, subst, ◌∙◌}
 use Rattle.std.specs.Prelude.{is_some}
 use Rattle.std.specs.Option.{IsSome}
 use Rattle.std.proofs.lemmas.Bool.{lt-ltb}
 use Rattle.inc_tree.specs.shape.Geometry.{Shape, block_len}
 use Rattle.inc_tree.specs.read_block.Path.{padded}
-use Rattle.inc_cell.specs.device.Digested.{DigestedBlock}
 use Rattle.inc_cell.specs.events.Pieces.{kind_count, piece_index}
-use Rattle.inc_filling.specs.Contents.{index_of_piece}
-use Rattle.inc_filling.proofs.lemmas.TakenLemmas.{padded_again, taken_sound}
-use Rattle.inc_handle.proofs.fill.pieces.filling_of.Goals as goal
+use Rattle.inc_filling.specs.Contents.{index_of_piece, len_of_piece}
+use Rattle.inc_filling.proofs.lemmas.TakenLemmas.{taken_sound}
+use Rattle.inc_handle.proofs.fill.pieces.stored_of.Goals as goal
 
 some_of : (found : Option ℕ) → is_some found ≡ true → IsSome found
 some_of None e = absurd (cc)
@@ -30,14 +29,11 @@ returns c =
     let at_tree : c.unwrap-index.result ≡ piece_index c.args.known.now.geometry c.args.piece.now.hash c.args.piece.now.number = rw c.unwrap-index.ensures at c.index_in.ensures.value in
     let index_is : c.unwrap-index.result ≡ index_of_piece c.args.known.now.opened.value c.args.piece.now =
     at_tree ∙ ap (λ (shape : Shape). piece_index shape c.args.piece.now.hash c.args.piece.now.number) c.args.known.now.geometry_is in
-    let len_is : c.block_len-len.result ≡ block_len c.args.known.now.opened.value.areas.geometry (index_of_piece c.args.known.now.opened.value c.args.piece.now) =
+    let len_is : c.block_len-len.result ≡ len_of_piece c.args.known.now.opened.value c.args.piece.now =
     c.block_len-len.ensures.value ∙ ap (λ (shape : Shape). block_len shape c.unwrap-index.result) c.args.known.now.geometry_is ∙ ap (block_len c.args.known.now.opened.value.areas.geometry) index_is in
-    let most : c.block_len-len.result ≤ 4096 = c.block_len-len.ensures.most in
-    let long = sound.long (omega arith) in
-    let enough : c.block_len-len.result ≤ length c.args.piece.now.bytes = omega arith in
     record {
       index = index_is;
-      block = ap (λ (d : DigestedBlock). d.bytes) c.of.ensures.value
-          ∙ ap (λ (l : List ℕ). padded (take c.block_len-len.result l)) (c.in_ok-block.ensures.value ∙ ap (λ (l : List ℕ). padded (take c.block_len-len.result l)) c.as_slice.ensures.value)
-          ∙ padded_again c.args.piece.now.bytes c.block_len-len.result enough ∙ ap (λ (n : ℕ). padded (take n c.args.piece.now.bytes)) len_is;
+      len = len_is;
+      most = c.block_len-len.ensures.most;
+      block = c.in_ok-block.ensures.value ∙ ap (λ (l : List ℕ). padded (take c.block_len-len.result l)) c.as_slice.ensures.value ∙ ap (λ (n : ℕ). padded (take n c.args.piece.now.bytes)) len_is;
     }

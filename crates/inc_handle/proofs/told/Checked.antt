@@ -1,16 +1,19 @@
 -- A piece's tests by the file's marks are those by its classes.
-use Rattle.std.proofs.Common.{◌≡◌, ℕ, zero, suc, ◌+◌, ◌<◌, Bool, true, false, cond, List, [], ◌∷◌, length, get_or, refl, sym, ap, ◌∙◌, arith}
-use Rattle.std.specs.Prelude.{slice_index_or}
+use Rattle.std.proofs.Common.{◌≡◌, ℕ, zero, suc, ◌<◌, ◌≤◌, Bool, true, false, cond, List, [], ◌∷◌, length, get_or, refl, sym, ap, ◌∙◌, arith}
+use Rattle.std.specs.Prelude.{All, slice_index_or}
+use Rattle.std.proofs.lemmas.List.Elements.{All-cons, All-nil}
+use Rattle.std.proofs.lemmas.List.Kept.{AllPairs-cons}
 use Rattle.inc_bytes.specs.Tests.{first_failing}
-use Rattle.std.specs.Prelude.{Option, Some, nat_lt}
-use Rattle.inc_tree.specs.shape.Geometry.{block_len, data_blocks, hash_blocks}
+use Rattle.std.specs.Prelude.{Some, nat_lt}
+use Rattle.inc_tree.specs.shape.Geometry.{block_len}
 use Rattle.inc_entry.specs.Stored.{is_compressed_class, is_damaged_class}
 use Rattle.inc_entry.specs.declared.classes.Class.{Class}
 use Rattle.inc_entry.specs.declared.classes.Class.TheVariants.{Closed, Damaged}
 use Rattle.inc_layout.specs.state.Reopening.{indices_passing}
 use Rattle.inc_layout.specs.declared.opened.Opened.{Opened}
 use Rattle.inc_layout.proofs.opened_file.OpenedParts.{has_parts}
-use Rattle.inc_model.specs.relation.State.{has}
+use Rattle.inc_model.specs.relation.State.{Rise, has}
+use Rattle.inc_model.proofs.lists.Sets.{pairs_none}
 use Rattle.inc_model.specs.declared.words.outcomes.FillError.{FillError}
 use Rattle.inc_model.specs.declared.words.outcomes.FillError.TheVariants.{OutOfRange}
 use Rattle.inc_cell.specs.events.Pieces.{kind_count, piece_index, piece_tests, stored_tests}
@@ -66,3 +69,24 @@ judged opened hash number compression len index e is lt =
     (in_range opened hash number compression len e
     ∙ ap (λ (i : ℕ). first_failing (stored_tests (slice_index_or opened.classes i Damaged) (block_len shape i) compression len)) (sym is)
     ∙ ap (λ (tests : List (Bool × FillError)). first_failing tests) (marked_tests opened index (block_len shape index) compression len lt))
+
+-- ---- the marks of a file are sets
+
+above_passing : (passes : Class → Bool) (low first : ℕ) (classes : List Class) → low ≤ first → All (λ index. low ≤ index) (indices_passing passes first classes)
+above_passing passes low first [] le = All-nil (λ (index : ℕ). low ≤ index)
+above_passing passes low first (class ∷ classes) le =
+    let rest = above_passing passes low (suc first) classes (omega arith) in
+    elim (passes class) as (λ b. All (λ index. low ≤ index) (cond b (first ∷ indices_passing passes (suc first) classes) (indices_passing passes (suc first) classes))) [
+      | true ↦ All-cons (λ (index : ℕ). low ≤ index) first (indices_passing passes (suc first) classes) le rest
+      | false ↦ rest
+    ]
+
+pub passing_rise : (passes : Class → Bool) (first : ℕ) (classes : List Class) → Rise (indices_passing passes first classes)
+passing_rise passes first [] = pairs_none (λ (a b : ℕ). a < b)
+passing_rise passes first (class ∷ classes) =
+    let rest = passing_rise passes (suc first) classes in
+    let above = above_passing passes (suc first) (suc first) classes (omega arith) in
+    elim (passes class) as (λ b. Rise (cond b (first ∷ indices_passing passes (suc first) classes) (indices_passing passes (suc first) classes))) [
+      | true ↦ AllPairs-cons (λ (a b : ℕ). a < b) first (indices_passing passes (suc first) classes) (λ k d lt. let le = above k d lt in omega arith) rest
+      | false ↦ rest
+    ]

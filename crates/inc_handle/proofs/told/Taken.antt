@@ -1,17 +1,14 @@
 -- Pieces of which none is refused are taken, and may be filled.
-use Rattle.std.proofs.Common.{◌≡◌, ℕ, zero, suc, ◌+◌, ◌<◌, ◌≤◌, Bool, true, false, cond, List, [], ◌∷◌, length, get_or, Option, Some, None, refl, sym, ap, subst, ◌∙◌, arith}
-use Rattle.std.specs.Prelude.{nat_eq, nat_lt, option_map, Result, Ok, Err}
+use Rattle.std.proofs.Common.{◌≡◌, ℕ, zero, suc, ◌+◌, Bool, true, false, cond, List, [], ◌∷◌, Option, Some, None, refl, sym, ap, subst, ◌∙◌, arith}
+use Rattle.std.specs.Prelude.{nat_eq, nat_lt, option_map}
 use Rattle.std.specs.Cmp.Lexicographic.{pointwise}
-use Rattle.inc_bytes.specs.Tests.{first_failing}
 use Rattle.inc_frame.specs.declared.piece.Piece.{Piece}
 use Rattle.inc_layout.specs.declared.opened.Opened.{Opened}
 use Rattle.inc_model.specs.declared.words.outcomes.FillError.{FillError}
-use Rattle.inc_cell.specs.events.Pieces.{piece_tests}
 use Rattle.inc_filling.specs.Grouped.{group_indices}
-use Rattle.inc_filling.specs.Pieces.{AreTaken, StorePieces, piece_indices}
+use Rattle.inc_filling.specs.Pieces.{AreTaken, StorePieces}
 use Rattle.inc_filling.specs.Refusals.{refusal_of}
 use Rattle.inc_filling.specs.declared.filling.Filling.{Filling}
-use Rattle.inc_filling.specs.declared.refusal.PieceRefusal.{PieceRefusal}
 use Rattle.inc_filling.specs.declared.refusal.PieceRefusal.TheVariants.{Refused, UnknownFile}
 use Rattle.inc_filling.specs.Grouped.{AllMayBeFilled}
 use Rattle.inc_filling.proofs.steps.PieceSteps.{all_may_be_filled, stored_indices}
