@@ -1,6 +1,6 @@
-ghost use Rattle.std.specs.Prelude.{◌≡◌, ◌+◌, ◌*◌, ◌%◌, ◌^◌, ◌<◌, ◌≤◌, ◌↔◌, IfOk, IfSome, OnOk, OnErr, IsNone};
+ghost use Rattle.std.specs.Prelude.{◌≡◌, ℕ, ◌+◌, ◌*◌, ◌%◌, ◌^◌, ◌<◌, ◌≤◌, ◌↔◌, IfOk, IfSome, OnOk, OnErr, IsNone};
 ghost use Rattle.inc_header.specs.Header.{MayMap, place_of};
-ghost use Rattle.inc_tree.specs.shape.Geometry.{Shape, block_len, data_blocks};
+ghost use Rattle.inc_tree.specs.shape.Geometry.{Shape, block_len, blocks_of, data_blocks};
 ghost use Rattle.inc_mapped.specs.Mapping.{IsMappedKind, ShowsPart, mapping_of, part_shown};
 
 use inc_header::{Header, HeaderKind};
@@ -54,6 +54,15 @@ impl MappedFile {
             offset,
             size: h.size,
         })
+    }
+
+    /// How many blocks the mapped file has, the last perhaps in part.
+    pub fn block_count(&self) -> u32
+        ensures value { result ≡ blocks_of self.now.size }
+        // In words there is a block at each index below it, and at no other.
+        ensures each { (index : ℕ) → (index < result) ↔ (4096 * index < self.now.size) }
+    {
+        self.size.div_ceil(BLOCK_SIZE as u64) as u32
     }
 
     /// The block of the original that this block shows, and how many bytes of it.

@@ -28,7 +28,7 @@ no_front : (id : List ℕ) (front : Result Header LayoutFault) → size_with id 
 no_front id (Ok header) = no_part id header header.kind
 no_front id (Err found) = refl
 
-no_other : (id bytes : List ℕ) (found : LayoutFault) → size_with id (other_standing found bytes) ≡ None
+pub no_other : (id bytes : List ℕ) (found : LayoutFault) → size_with id (other_standing found bytes) ≡ None
 no_other id bytes fault.Mapped = no_front id (front_of bytes)
 no_other id bytes found = refl
 

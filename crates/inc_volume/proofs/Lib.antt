@@ -5,3 +5,4 @@ pub mod StandingMeaning
 pub mod SurveyMeaning
 pub mod Told
 pub mod VerdictMeaning
+pub mod volumes

@@ -6,7 +6,6 @@ use Rattle.inc_volume.specs.Verdicts.{AreByFile, IsByFile, judged_rows, part_ver
 use Rattle.inc_volume.specs.declared.holder.Holder.{Holder}
 use Rattle.inc_volume.specs.declared.standing.Standing.{Standing}
 use Rattle.inc_volume.specs.declared.standing.Standing.TheVariants as standing
-use Rattle.inc_volume.specs.declared.verdict.Verdict.{Verdict}
 use Rattle.inc_volume.specs.declared.verdict.Verdict.TheVariants as verdict
 
 pub standings_with : (rows : List (List ℕ × Standing)) (row : List ℕ × Standing) → HaveFileFaults rows → HasFileFault row.1 → HaveFileFaults (rows ++ row ∷ [])

@@ -17,7 +17,7 @@ use Rattle.inc_volume.specs.declared.verdict.Verdict.{Verdict}
 use Rattle.inc_volume.specs.declared.verdict.Verdict.TheVariants.{Plain, Mapped, SameId, PastOriginal}
 use Rattle.inc_volume.proofs.Keeping.{holder_keeps, none_keeps}
 
-own_size : (files : Contents) (name id : List ℕ) (size : ℕ) (complete : Bool) → standing_at files name ≡ Some (standing.Plain id size complete) → size_held files id name ≡ Some size
+pub own_size : (files : Contents) (name id : List ℕ) (size : ℕ) (complete : Bool) → standing_at files name ≡ Some (standing.Plain id size complete) → size_held files id name ≡ Some size
 own_size files name id size complete own =
     ap (size_of_any id) own ∙ ap (λ (b : Bool). if b then Some size else None) ((bytes_eq-Decides id id).1 refl)
 

@@ -1,2 +1,3 @@
+pub mod mounting
 pub mod Standings
 pub mod Verdicts

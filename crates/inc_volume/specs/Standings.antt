@@ -1,7 +1,8 @@
 -- What a file's bytes say without any other file: a plain file that stands by itself, a part of another file's content, or neither.
-use Rattle.std.specs.Prelude.{◌≢◌, ℕ, Bool, false, List, [], ◌∷◌, take, Result, Ok, Err}
+use Rattle.std.specs.Prelude.{◌≡◌, ◌≢◌, ◌+◌, ◌%◌, ◌^◌, ◌<◌, ◌≤◌, ℕ, Bool, false, List, [], ◌∷◌, take, Result, Ok, Err}
 use Rattle.std.specs.List.{list_all}
 use Rattle.inc_tree.specs.shape.Geometry.{data_blocks}
+use Rattle.inc_tree.specs.shape.Limits.{most_size}
 use Rattle.inc_header.specs.declared.header.Header.{Header}
 use Rattle.inc_header.specs.declared.header.HeaderKind.{HeaderKind}
 use Rattle.inc_header.specs.declared.header.HeaderKind.TheVariants as kind
@@ -73,3 +74,11 @@ abbrev pub headless : LayoutFault → Result Bool LendFault
 headless fault.ReadFault = Err Failed
 headless fault.OutOfMemory = Err OutOfMemory
 headless found = Ok false
+
+-- ---- what is promised whether the file's bytes are told or not
+
+-- a plain file is no larger than its format allows. A part begins at a block's start, and ends below 2 ^ 64
+abbrev pub HasPart : Standing → Type 0
+HasPart (Plain id size complete) = size ≤ most_size
+HasPart (Part original offset size) = (offset % 4096 ≡ 0) × (offset + size < 2 ^ 64)
+HasPart (Refused found) = Unit {0}

@@ -2,7 +2,7 @@
 --
 -- A plain file that stands by itself keeps its id, unless a file with a lower name does: of the files with one id the first in the byte
 -- order of names keeps it. A mapped file is good where a plain file keeps its original's id and is long enough.
-use Rattle.std.specs.Prelude.{◌≡◌, ℕ, ◌+◌, ◌<◌, ◌≤◌, Bool, if◌then◌else◌, nat_le, List, [], ◌∷◌, map, Option, Some, None, option_map}
+use Rattle.std.specs.Prelude.{◌≡◌, ℕ, ◌+◌, ◌%◌, ◌^◌, ◌<◌, ◌≤◌, Bool, if◌then◌else◌, nat_le, List, [], ◌∷◌, map, Option, Some, None, option_map}
 use Rattle.std.specs.List.{filter_map}
 use Rattle.std.specs.Str.{bytes_eq}
 use Rattle.std.specs.Ordering.{nat_cmp}
@@ -166,3 +166,14 @@ judged_row holder row = (row.0, verdict_with holder row.0 row.1)
 
 abbrev pub judged_rows : (List ℕ → Option Holder) → List (List ℕ × Standing) → List (List ℕ × Verdict)
 judged_rows holder rows = map (judged_row holder) rows
+
+-- ---- what is promised of a mapped name, whether the shelf tells its files or not
+
+-- its part begins at a block's start, and ends below 2 ^ 64
+abbrev pub HasMapping : Verdict → Type 0
+HasMapping (Plain id complete) = Unit {0}
+HasMapping (Mapped original offset size) = (offset % 4096 ≡ 0) × (offset + size < 2 ^ 64)
+HasMapping (SameId id) = Unit {0}
+HasMapping (NoOriginal original) = Unit {0}
+HasMapping (PastOriginal original) = Unit {0}
+HasMapping (Refused fault) = Unit {0}

@@ -1,10 +1,11 @@
 // Who keeps an id.
-ghost use Rattle.std.specs.Prelude.{◌≡◌, false, None, IfSome, IfOk};
+ghost use Rattle.std.specs.Prelude.{◌≡◌, ◌≤◌, false, None, IfSome, IfOk};
 ghost use Rattle.inc_io.specs.Causes.{HasCauseAt};
 ghost use Rattle.inc_io.specs.Outside.{NoneOut};
 ghost use Rattle.inc_io.specs.declared.failed.LendFault.TheVariants.{Failed as lend_failed};
 ghost use Rattle.std.specs.Str.{bytes_eq};
-ghost use Rattle.inc_volume.specs.Standings.{headless, standing_of};
+ghost use Rattle.inc_tree.specs.shape.Limits.{most_size};
+ghost use Rattle.inc_volume.specs.Standings.{HasPart, headless, standing_of};
 ghost use Rattle.inc_volume.specs.Verdicts.{first_holder, holder_of, size_held, size_with};
 
 use crate::standing::{Standing, stand};
@@ -31,6 +32,7 @@ pub fn find_holder<S: ReadShelf>(
 ) -> Result<Option<Holder>, LendFault>
     requires { NoneOut (S.out shelf.old) }
     ensures answer { IfSome (S.contents (S.kept shelf.old)) (λ files. IfOk result (λ holder. holder ≡ holder_of files id.now)) }
+    ensures small { IfOk result (λ holder. IfSome holder (λ holder. holder.size ≤ most_size)) }
     ensures kept { S.kept shelf.new ≡ S.kept shelf.old }
     ensures back { NoneOut (S.out shelf.new) }
     ensures cause { HasCauseAt lend_failed (S.faults shelf.old) (S.faults shelf.new) result }
@@ -48,6 +50,7 @@ fn first_holder<S: ReadShelf>(
 ) -> Result<Option<Holder>, LendFault>
     requires { NoneOut (S.out shelf.old) }
     ensures answer { IfSome (S.contents (S.kept shelf.old)) (λ files. IfOk result (λ holder. holder ≡ first_holder files id.now names.now)) }
+    ensures small { IfOk result (λ holder. IfSome holder (λ holder. holder.size ≤ most_size)) }
     ensures kept { S.kept shelf.new ≡ S.kept shelf.old }
     ensures back { NoneOut (S.out shelf.new) }
     ensures cause { HasCauseAt lend_failed (S.faults shelf.old) (S.faults shelf.new) result }
@@ -74,6 +77,7 @@ fn size_held<S: ReadShelf>(
 ) -> Result<Option<u64>, LendFault>
     requires { NoneOut (S.out shelf.old) }
     ensures answer { IfSome (S.contents (S.kept shelf.old)) (λ files. IfOk result (λ size. size ≡ size_held files id.now name.now)) }
+    ensures small { IfOk result (λ size. IfSome size (λ size. size ≤ most_size)) }
     ensures kept { S.kept shelf.new ≡ S.kept shelf.old }
     ensures back { NoneOut (S.out shelf.new) }
     ensures cause { HasCauseAt lend_failed (S.faults shelf.old) (S.faults shelf.new) result }
@@ -89,6 +93,7 @@ fn size_held<S: ReadShelf>(
 /// The size of a plain file with this id. A file with another header is read no further.
 fn size_in<B: Backing>(alloc: Global, file: &mut B, id: &Id) -> Result<Option<u64>, LendFault>
     ensures answer { IfSome (B.reads (B.kept file.old)) (λ bytes. IfOk result (λ size. size ≡ size_with id.now (standing_of bytes))) }
+    ensures small { IfOk result (λ size. IfSome size (λ size. size ≤ most_size)) }
     ensures kept { B.kept file.new ≡ B.kept file.old }
     ensures cause { HasCauseAt lend_failed (B.faults file.old) (B.faults file.new) result }
 {
@@ -127,6 +132,7 @@ fn no_header(fault: LayoutFault) -> Result<bool, LendFault>
 
 pub fn size_with(standing: &Standing, id: &Id) -> Option<u64>
     ensures value { result ≡ size_with id.now standing.now }
+    ensures small { HasPart standing.now → IfSome result (λ size. size ≤ most_size) }
 {
     match standing {
         Standing::Plain { id: own, size, .. } => {

@@ -1,11 +1,11 @@
 // The verdict of one name.
-ghost use Rattle.std.specs.Prelude.{◌≡◌, ◌+◌, nat_le, IfSome, IfOk};
+ghost use Rattle.std.specs.Prelude.{◌≡◌, ◌+◌, ◌%◌, ◌^◌, ◌<◌, nat_le, IfSome, IfOk};
 ghost use Rattle.std.specs.Str.{bytes_eq};
 ghost use Rattle.inc_io.specs.Causes.{HasCauseAt};
 ghost use Rattle.inc_io.specs.Outside.{NoneOut};
 ghost use Rattle.inc_io.specs.declared.failed.LendFault.TheVariants.{Failed as lend_failed};
-ghost use Rattle.inc_volume.specs.Standings.{HasFileFault};
-ghost use Rattle.inc_volume.specs.Verdicts.{IsByFile, IsVerdict, holder_of, part_verdict, plain_verdict, standing_at, verdict_of, verdict_with};
+ghost use Rattle.inc_volume.specs.Standings.{HasFileFault, HasPart};
+ghost use Rattle.inc_volume.specs.Verdicts.{HasMapping, IsByFile, IsVerdict, holder_of, part_verdict, plain_verdict, standing_at, verdict_of, verdict_with};
 
 use crate::holder::{Holder, find_holder};
 use crate::standing::{Standing, stand};
@@ -27,6 +27,7 @@ pub fn judge<S: ReadShelf>(
     // In words it is what stands there.
     ensures meaning { IfSome (S.contents (S.kept shelf.old)) (λ files. IfOk result (λ verdict. IfSome verdict (IsVerdict files name.now))) }
     ensures own { IfOk result (λ verdict. IfSome verdict (λ verdict. IsByFile verdict)) }
+    ensures mapping { IfOk result (λ verdict. IfSome verdict HasMapping) }
     ensures kept { S.kept shelf.new ≡ S.kept shelf.old }
     ensures back { NoneOut (S.out shelf.new) }
     ensures cause { HasCauseAt lend_failed (S.faults shelf.old) (S.faults shelf.new) result }
@@ -46,6 +47,7 @@ pub fn stand_at<S: ReadShelf>(
     requires { NoneOut (S.out shelf.old) }
     ensures answer { IfSome (S.contents (S.kept shelf.old)) (λ files. IfOk result (λ standing. standing ≡ standing_at files name.now)) }
     ensures own { IfOk result (λ standing. IfSome standing (λ standing. HasFileFault standing)) }
+    ensures part { IfOk result (λ standing. IfSome standing HasPart) }
     ensures kept { S.kept shelf.new ≡ S.kept shelf.old }
     ensures back { NoneOut (S.out shelf.new) }
     ensures cause { HasCauseAt lend_failed (S.faults shelf.old) (S.faults shelf.new) result }
@@ -67,6 +69,8 @@ fn verdict_by<S: ReadShelf>(
 ) -> Result<Verdict, LendFault>
     requires none_out { NoneOut (S.out shelf.old) }
     requires own { HasFileFault standing }
+    requires part { HasPart standing }
+    ensures mapping { IfOk result HasMapping }
     ensures answer { IfSome (S.contents (S.kept shelf.old)) (λ files. IfOk result (λ verdict. verdict ≡ verdict_with (holder_of files) name.now standing)) }
     ensures own { IfOk result (λ verdict. IsByFile verdict) }
     ensures kept { S.kept shelf.new ≡ S.kept shelf.old }
@@ -92,6 +96,7 @@ fn verdict_by<S: ReadShelf>(
 
 /// The verdict of a plain file, by who keeps its id.
 pub fn plain_verdict(name: &Name, id: Id, complete: bool, holder: &Option<Holder>) -> Verdict
+    ensures mapping { HasMapping result }
     ensures value { result ≡ plain_verdict name.now id complete holder.now }
     ensures own { IsByFile result }
 {
@@ -109,6 +114,7 @@ pub fn plain_verdict(name: &Name, id: Id, complete: bool, holder: &Option<Holder
 
 /// The verdict of a mapped file, by who keeps its original's id.
 pub fn part_verdict(original: Id, offset: u64, size: u64, holder: &Option<Holder>) -> Verdict
+    ensures mapping { offset % 4096 ≡ 0 → offset + size < 2 ^ 64 → HasMapping result }
     ensures value { result ≡ part_verdict original offset size holder.now }
     ensures own { IsByFile result }
 {
@@ -129,7 +135,7 @@ pub fn part_verdict(original: Id, offset: u64, size: u64, holder: &Option<Holder
 }
 
 /// Whether so many bytes from an offset on end within a length.
-fn fits_in(offset: u64, size: u64, len: u64) -> bool
+pub fn fits_in(offset: u64, size: u64, len: u64) -> bool
     ensures value { result ≡ nat_le (offset + size) len }
 {
     if offset > len {

@@ -3,11 +3,12 @@ ghost use Rattle.std.specs.Prelude.{◌≡◌, Bool, IfSome, IfOk, OnErr, take};
 ghost use Rattle.std.specs.List.{list_all};
 ghost use Rattle.inc_io.specs.Causes.{HasCauseAt};
 ghost use Rattle.inc_io.specs.declared.failed.LendFault.TheVariants.{Failed as lend_failed};
+ghost use Rattle.inc_header.specs.Header.{IsHeader};
 ghost use Rattle.inc_entry.specs.Stored.{is_open_class};
 ghost use Rattle.inc_layout.specs.fixed.Fixed.{front_of};
 ghost use Rattle.inc_layout.specs.opening.Faults.{IsOwnFault};
 ghost use Rattle.inc_layout.specs.opening.Opening.{IsSoundLayout};
-ghost use Rattle.inc_volume.specs.Standings.{HasFileFault, part_in, part_standing, plain_standing, standing_by_fault, standing_of};
+ghost use Rattle.inc_volume.specs.Standings.{HasFileFault, HasPart, part_in, part_standing, plain_standing, standing_by_fault, standing_of};
 
 use inc_bytes::Id;
 use inc_entry::Class;
@@ -39,6 +40,7 @@ pub enum Standing {
 pub fn stand<B: Backing>(alloc: Global, file: &mut B) -> Result<Standing, LendFault>
     ensures answer { IfSome (B.reads (B.kept file.old)) (λ bytes. IfOk result (λ standing. standing ≡ standing_of bytes)) }
     ensures own { IfOk result (λ standing. HasFileFault standing) }
+    ensures part { IfOk result HasPart }
     ensures kept { B.kept file.new ≡ B.kept file.old }
     ensures cause { HasCauseAt lend_failed (B.faults file.old) (B.faults file.new) result }
 {
@@ -55,6 +57,7 @@ pub fn stand<B: Backing>(alloc: Global, file: &mut B) -> Result<Standing, LendFa
 fn part_of<B: Backing>(file: &mut B) -> Result<Standing, LendFault>
     ensures answer { IfSome (B.reads (B.kept file.old)) (λ bytes. IfOk result (λ standing. standing ≡ part_standing (front_of bytes))) }
     ensures own { IfOk result (λ standing. HasFileFault standing) }
+    ensures part { IfOk result HasPart }
     ensures kept { B.kept file.new ≡ B.kept file.old }
     ensures cause { HasCauseAt lend_failed (B.faults file.old) (B.faults file.new) result }
 {
@@ -66,6 +69,7 @@ fn part_of<B: Backing>(file: &mut B) -> Result<Standing, LendFault>
 
 fn plain(layout: &Layout) -> Standing
     requires { IsSoundLayout layout.now }
+    ensures part { HasPart result }
     ensures value { result ≡ plain_standing layout.now }
     ensures own { HasFileFault result }
 {
@@ -73,7 +77,7 @@ fn plain(layout: &Layout) -> Standing
     let (first, _) = layout.classes.as_slice().split_at(count as usize);
     Standing::Plain {
         id: layout.header.id,
-        size: layout.header.size,
+        size: layout.areas.geometry.size(),
         complete: are_open(first),
     }
 }
@@ -91,6 +95,8 @@ fn is_open(class: Class) -> bool
 }
 
 fn part(header: &Header) -> Standing
+    requires { IsHeader header.now }
+    ensures part { HasPart result }
     ensures value { result ≡ part_in header.now header.now.kind }
     ensures own { HasFileFault result }
 {
@@ -109,6 +115,7 @@ fn refused(fault: LayoutFault) -> Result<Standing, LendFault>
     requires { IsOwnFault fault }
     ensures value { result ≡ standing_by_fault fault }
     ensures own { IfOk result (λ standing. HasFileFault standing) }
+    ensures part { IfOk result HasPart }
 {
     match fault {
         LayoutFault::ReadFault => Err(LendFault::Failed),

@@ -10,13 +10,13 @@ use std::alloc::Global;
 use std::test::Fail;
 
 /// More bytes than a file has.
-const ROOM: u64 = 1 << 20;
+pub const ROOM: u64 = 1 << 20;
 
-/// More calls than a verdict makes of a file.
-const MANY: u32 = 100;
+/// More calls than a verdict or a mount makes of a file.
+pub const MANY: u32 = 100;
 
 /// An id that no file has.
-const NO_ID: [u8; 16] = [9; 16];
+pub const NO_ID: [u8; 16] = [9; 16];
 
 /// The id of a file that is refused.
 const REFUSED_ID: [u8; 16] = [8; 16];
@@ -119,15 +119,15 @@ fn with_id(alloc: Global, file: &[u8], byte: u8) -> Result<Vec<u8>, Fail> {
     Ok(copy)
 }
 
-/// An unsigned file before its block has come.
-fn unsigned(alloc: Global) -> Result<Vec<u8>, Fail> {
-    let image = fresh_unsigned(alloc, 4096, UNSIGNED_ID).map_err(|_| "a file")?;
+/// An unsigned file with this id before its block has come.
+pub fn unsigned(alloc: Global, id: [u8; 16]) -> Result<Vec<u8>, Fail> {
+    let image = fresh_unsigned(alloc, 4096, id).map_err(|_| "a file")?;
     let mut bytes = image.front.as_slice().to_vec(alloc)?;
     bytes.resize(156, 0u8)?;
     Ok(bytes)
 }
 
-fn put(alloc: Global, shelf: &mut MemShelf, name: &[u8], bytes: &[u8]) -> Result<(), Fail>
+pub fn put(alloc: Global, shelf: &mut MemShelf, name: &[u8], bytes: &[u8]) -> Result<(), Fail>
     ensures none_out { shelf.new.out ≡ shelf.old.out }
 {
     let name = name_of(alloc, name)?;
@@ -182,5 +182,10 @@ fn put_plain(alloc: Global, shelf: &mut MemShelf) -> Result<(), Fail>
     let fresh = one_fresh(alloc)?;
     let refused = with_id(alloc, &fresh[..fresh.len().saturating_sub(1)], 8)?;
     put(alloc, shelf, b"refused", refused.as_slice())?;
-    put(alloc, shelf, b"unsigned", unsigned(alloc)?.as_slice())
+    put(
+        alloc,
+        shelf,
+        b"unsigned",
+        unsigned(alloc, UNSIGNED_ID)?.as_slice(),
+    )
 }

@@ -1,0 +1,9 @@
+pub mod Differing
+pub mod GivingBack
+pub mod MountedCells
+pub mod OpenSteps
+pub mod PlanSteps
+pub mod PlannedFiles
+pub mod RefusalFaults
+pub mod RunsLeft
+pub mod VolumeAnswers

@@ -1,0 +1,4 @@
+pub mod Cells
+pub mod MountRuns
+pub mod Planned
+pub mod Targets
