@@ -7,21 +7,23 @@ use Rattle.std.proofs.lemmas.Slice.Eq.{bytes_eq-Decides}
 use Rattle.inc_signature.specs.declared.signature.SigInfo.{SigInfo}
 use Rattle.inc_layout.specs.Backing.{IsLaidOut}
 use Rattle.inc_layout.specs.opening.Listed.{listed}
-use Rattle.inc_layout.specs.reading.StaticRead.{MeansReading, static_reading}
+use Rattle.inc_mapped.specs.Mapping.{Mapping}
 use Rattle.inc_layout.specs.declared.opened.Layout.{Layout}
 use Rattle.inc_layout.specs.declared.reading.static_error.StaticError.{StaticError}
-use Rattle.inc_layout.proofs.block_read.ReadMeaning.{reading_means}
-use Rattle.inc_cmd.specs.Commands.Check.{AreAllProved, IsGoodBlock, below, block_count, checked_in, checked_status, is_good}
+use Rattle.inc_cmd.specs.Commands.Parts.{BeginsBlock, IsNameContent, name_blocks, name_reading}
+use Rattle.inc_cmd.specs.Commands.Check.{AreAllProved, IsGoodBlock, below, checked_in, checked_status, is_good}
 use Rattle.inc_cmd.specs.Commands.Read.{sig_refusal}
 use Rattle.inc_words.specs.Endings.{Ending, EndsAs, unless_refused}
 use Rattle.inc_words.specs.Refusals.{root_differs}
 use Rattle.inc_words.specs.declared.outcome.CommandOutcome.{CommandOutcome}
 use Rattle.inc_words.specs.declared.stop.Stop.{Stop}
 use Rattle.inc_cmd.proofs.CheckLemmas.{one_more}
+use Rattle.inc_cmd.proofs.PartLemmas.{name_means}
 
-good_block : (bytes : List ℕ) (layout : Layout) (index : ℕ) (read : Result (List ℕ) StaticError) → MeansReading bytes layout index read → is_ok read ≡ true → IsGoodBlock bytes layout index
-good_block bytes layout index (Ok content) means ok = record { content = content; proved = means }
-good_block bytes layout index (Err error) means ok = absurd (cc)
+good_block : (bytes : List ℕ) (layout : Layout) (part : Option Mapping) (index : ℕ) (read : Result (List ℕ) StaticError)
+    → ((text : List ℕ) → read ≡ Ok text → IsNameContent bytes layout part index text) → is_ok read ≡ true → IsGoodBlock bytes layout part index
+good_block bytes layout part index (Ok content) means ok = record { content = content; proved = means content refl }
+good_block bytes layout part index (Err error) means ok = absurd (cc)
 
 few_good : (p : ℕ → Bool) (count : ℕ) → count_by p (below count) ≤ count
 unfolding listed
@@ -53,10 +55,10 @@ good_status false status is e = absurd (omega arith)
 status_good : (good count : ℕ) → checked_status good count ≡ 0 → good ≡ count
 status_good good count e = eqb-true good count (good_status (eqb good count) (checked_status good count) refl e)
 
-all_good : (bytes : List ℕ) (layout : Layout) → IsLaidOut bytes layout → (checked_in bytes layout).status ≡ 0 → (i : ℕ) → i < block_count layout → IsGoodBlock bytes layout i
-all_good bytes layout stands e i lt =
-    good_block bytes layout i (static_reading bytes layout i) (reading_means bytes layout i stands)
-    (each_good (is_good bytes layout) (block_count layout) (status_good (count_by (is_good bytes layout) (below (block_count layout))) (block_count layout) e) i lt)
+all_good : (bytes : List ℕ) (layout : Layout) (part : Option Mapping) → BeginsBlock part → IsLaidOut bytes layout → (checked_in bytes layout part).status ≡ 0 → (i : ℕ) → i < name_blocks layout part → IsGoodBlock bytes layout part i
+all_good bytes layout part begins stands e i lt =
+    good_block bytes layout part i (name_reading bytes layout part i) (name_means bytes layout part i begins stands)
+    (each_good (is_good bytes layout part) (name_blocks layout part) (status_good (count_by (is_good bytes layout part) (below (name_blocks layout part))) (name_blocks layout part) e) i lt)
 
 -- ---- the command
 
@@ -77,15 +79,15 @@ passed name root None ending e = absurd (omega arith)
 passed name None (Some info) ending e = record { info = info; signed = refl; given = tt; ends = e }
 passed name (Some given) (Some info) ending e = by_root name given info ending (bytes_eq info.root given) refl e
 
-file_proved : (name bytes : List ℕ) (root : Option (List ℕ)) (layout : Layout) → IsLaidOut bytes layout
-    → (unless_refused name (sig_refusal false root layout.sig) (checked_in bytes layout)).status ≡ 0 → AreAllProved bytes root
-file_proved name bytes root layout stands e =
-    let p = passed name root layout.sig (checked_in bytes layout) e in
-    record { layout = layout; stands = stands; sig = p.info; signed = p.signed; given = p.given; each = all_good bytes layout stands p.ends }
+file_proved : (name bytes : List ℕ) (root : Option (List ℕ)) (layout : Layout) (part : Option Mapping) → BeginsBlock part → IsLaidOut bytes layout
+    → (unless_refused name (sig_refusal false root layout.sig) (checked_in bytes layout part)).status ≡ 0 → AreAllProved bytes root part
+file_proved name bytes root layout part begins stands e =
+    let p = passed name root layout.sig (checked_in bytes layout part) e in
+    record { layout = layout; stands = stands; sig = p.info; signed = p.signed; given = p.given; each = all_good bytes layout part begins stands p.ends }
 
-pub shows_checked : (told : Option (List ℕ)) (name : List ℕ) (root : Option (List ℕ)) (layout : Layout) (result : Result CommandOutcome Stop) → IfSome told (λ bytes. IsLaidOut bytes layout)
-    → IfSome told (λ bytes. IfOk result (EndsAs (unless_refused name (sig_refusal false root layout.sig) (checked_in bytes layout))))
-    → IfSome told (λ bytes. IfOk result (λ outcome. outcome.status.0 ≡ 0 → AreAllProved bytes root))
-shows_checked None name root layout result stands is = tt
-shows_checked (Some bytes) name root layout (Err stop) stands is = tt
-shows_checked (Some bytes) name root layout (Ok outcome) stands is = λ e. file_proved name bytes root layout stands (sym is.status_is ∙ e)
+pub shows_checked : (told : Option (List ℕ)) (name : List ℕ) (root : Option (List ℕ)) (layout : Layout) (part : Option Mapping) (result : Result CommandOutcome Stop) → BeginsBlock part → IfSome told (λ bytes. IsLaidOut bytes layout)
+    → IfSome told (λ bytes. IfOk result (EndsAs (unless_refused name (sig_refusal false root layout.sig) (checked_in bytes layout part))))
+    → IfSome told (λ bytes. IfOk result (λ outcome. outcome.status.0 ≡ 0 → AreAllProved bytes root part))
+shows_checked None name root layout part result begins stands is = tt
+shows_checked (Some bytes) name root layout part (Err stop) begins stands is = tt
+shows_checked (Some bytes) name root layout part (Ok outcome) begins stands is = λ e. file_proved name bytes root layout part begins stands (sym is.status_is ∙ e)

@@ -6,6 +6,7 @@ pub mod ListingCount
 pub mod ListingLemmas
 pub mod ListingMeaning
 pub mod MakeLemmas
-pub mod OutputLemmas
+pub mod NameLemmas
+pub mod PartLemmas
 pub mod ReadLemmas
 pub mod RunLemmas

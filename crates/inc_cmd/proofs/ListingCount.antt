@@ -1,7 +1,7 @@
 -- No name stands in two lists of a listing: they have as many rows as the shelf has names.
-use Rattle.std.proofs.Common.{◌≡◌, ◌⊎◌, ℕ, zero, suc, ◌+◌, List, [], ◌∷◌, length, map, Bool, true, false, if◌then◌else◌, Option, Some, None, refl, sym, ap, ◌∙◌, subst, inl, inr, arith}
+use Rattle.std.proofs.Common.{◌≡◌, ◌⊎◌, ℕ, zero, suc, ◌+◌, List, [], ◌∷◌, length, map, true, false, if◌then◌else◌, Option, refl, sym, ap, ◌∙◌, subst, inl, inr, arith}
 use Rattle.std.specs.Prelude.{option_map}
-use Rattle.std.specs.List.{AllByRecursion, cons_option, insert}
+use Rattle.std.specs.List.{cons_option, insert}
 use Rattle.std.specs.Result.{result_ok}
 use Rattle.std.specs.Ordering.{nat_cmp, ordering_reverse}
 use Rattle.std.specs.declared.cmp.Ordering.TheVariants.{Less, Greater}
@@ -13,7 +13,7 @@ use Rattle.inc_index.specs.declared.indexed.Indexed.{Indexed}
 use Rattle.inc_volume.specs.Verdicts.{AreByFile, AreVerdicts, IsByFile, IsVerdict, KeepsId}
 use Rattle.inc_volume.specs.declared.verdict.Verdict.{Verdict}
 use Rattle.inc_volume.specs.declared.verdict.Verdict.TheVariants as verdict
-use Rattle.inc_cmd.specs.Commands.Listing.{IsIndexed, NamesRise, file_in, index_of, mapped_of, original_in, refusal_in, refused_of, told_row, with_row}
+use Rattle.inc_cmd.specs.Commands.Listing.{IsIndexed, NamesRise, file_in, index_of, mapped_of, original_in, refusal_in, refused_of, with_row}
 use Rattle.inc_cmd.proofs.ListingLemmas.{AreKept, Behind, fault_has_word, index_kept, keeper_indexed}
 
 -- ---- a name of the index is one of the rows

@@ -1,26 +1,22 @@
 -- What a listing says of a shelf: each name once, by its verdict.
-use Rattle.std.proofs.Common.{◌≡◌, ◌⊎◌, ℕ, zero, suc, List, [], ◌∷◌, length, map, Bool, true, false, ◌||◌, if◌then◌else◌, Option, Some, None, Result, Ok, Err, refl, sym, ap, ◌∙◌, subst, inl, inr}
-use Rattle.std.specs.Prelude.{IfSome, IfOk, T, IsTrue, option_map, ◌&&◌}
-use Rattle.std.specs.List.{AllByRecursion, cons_option, filter_map, insert, list_any}
+use Rattle.std.proofs.Common.{◌≡◌, ◌⊎◌, ℕ, zero, suc, List, [], ◌∷◌, length, map, Bool, true, false, if◌then◌else◌, Option, Some, None, refl, sym, ap, ◌∙◌, subst, inl, inr}
+use Rattle.std.specs.Prelude.{IfSome, T, IsTrue, option_map, ◌&&◌}
+use Rattle.std.specs.List.{AllByRecursion, cons_option, filter_map, insert}
 use Rattle.std.specs.Result.{result_ok}
-use Rattle.std.specs.Ordering.{nat_cmp, is_lt, ordering_reverse}
+use Rattle.std.specs.Ordering.{nat_cmp, is_lt}
 use Rattle.std.specs.declared.cmp.Ordering.{Ordering}
 use Rattle.std.specs.declared.cmp.Ordering.TheVariants.{Less, Equal, Greater}
-use Rattle.std.specs.Cmp.Lexicographic.{slice_cmp, nat_list_cmp_total}
-use Rattle.std.specs.FinMap.{entries, entries_sorted, keys, slice_cmp-IsAntisymmetric, nat_cmp-IsAntisymmetric}
+use Rattle.std.specs.Cmp.Lexicographic.{slice_cmp}
+use Rattle.std.specs.FinMap.{entries, entries_sorted, keys}
 use Rattle.std.specs.FinMap.Entries.{is_sorted, below_all}
-use Rattle.std.specs.Str.{bytes_eq}
-use Rattle.std.proofs.lemmas.Slice.Eq.{bytes_eq-Decides}
 use Rattle.inc_io.specs.Contents.{Contents}
-use Rattle.inc_index.specs.Index.{AreInIdOrder, has_id, is_of}
+use Rattle.inc_index.specs.Index.{AreInIdOrder, has_id}
 use Rattle.inc_index.specs.Place.{place_by_id, with_file}
 use Rattle.inc_index.specs.declared.indexed.Indexed.{Indexed}
 use Rattle.inc_index.proofs.Order.{rising_with}
-use Rattle.inc_volume.specs.Verdicts.{AreByFile, AreVerdicts, IsByFile, IsHolder, IsVerdict, KeepsId, size_held}
-use Rattle.inc_volume.specs.declared.holder.Holder.{Holder}
+use Rattle.inc_volume.specs.Verdicts.{AreByFile, AreVerdicts, IsByFile, IsVerdict, KeepsId}
 use Rattle.inc_volume.specs.declared.verdict.Verdict.{Verdict}
 use Rattle.inc_volume.specs.declared.verdict.Verdict.TheVariants as verdict
-use Rattle.inc_words.specs.Refusals.{layout_word}
 use Rattle.inc_cmd.specs.Commands.Listing.{AreInNameOrder, NamesRow, IsIndexed, IsMappedInto, IsRefusedBy, ListsNames, NamesRise, file_in, index_of, list_text, mapped_of, original_in, refusal_in, refused_of, told_row, with_row}
 use Rattle.inc_cmd.proofs.ListingCount.{rows_counted}
 use Rattle.inc_cmd.proofs.ListingLemmas.{AreKept, Behind, fault_has_word, index_kept, keeper_indexed}

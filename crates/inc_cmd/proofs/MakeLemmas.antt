@@ -57,7 +57,7 @@ first_left states more first image grew is = subst (λ (ds : List DiskState). Ma
     at_end [] = inl (omega arith, is)
     at_end (disk ∷ past) = inr (at_end past)
 
-own_entries : (name : List ℕ) (states : List DiskState) (first : DiskState) (log : Log) → entries_of name states ++ (name, first) ∷ log ≡ entries_of name (states ++ first ∷ []) ++ log
+pub own_entries : (name : List ℕ) (states : List DiskState) (first : DiskState) (log : Log) → entries_of name states ++ (name, first) ∷ log ≡ entries_of name (states ++ first ∷ []) ++ log
 own_entries name [] first log = refl
 own_entries name (disk ∷ past) first log = ap (λ (rest : Log). (name, disk) ∷ rest) (own_entries name past first log)
 
@@ -71,7 +71,7 @@ own_file name states log free = record {
     none true free e = absurd (cc)
     none false free e = absurd (cc)
 
-file_log : (name fresh : List ℕ) (states : List DiskState) (log : Log) → LeavesOnly (settled [] ∷ []) states (MayBeLeft fresh)
+pub file_log : (name fresh : List ℕ) (states : List DiskState) (log : Log) → LeavesOnly (settled [] ∷ []) states (MayBeLeft fresh)
     → LeavesNew name fresh log (entries_of name states ++ (name, settled []) ∷ log)
 file_log name fresh states log leaves =
     λ image left. ⊎_elim (on_shelf image) (of_disk image) ((joins_images name states ((name, settled []) ∷ log)).each (suc (length log)) image left)
@@ -99,7 +99,7 @@ file_log name fresh states log leaves =
         earlier bytes (inr there) = absurd there
 
 -- a file came to stand, was written and given back
-all_entries : (log : Log) (created after : Option Log) (name : List ℕ) (states : List DiskState) → created ≡ option_map (λ log. (name, settled []) ∷ log) (Some log)
+pub all_entries : (log : Log) (created after : Option Log) (name : List ℕ) (states : List DiskState) → created ≡ option_map (λ log. (name, settled []) ∷ log) (Some log)
     → after ≡ option_map (λ log. entries_of name states ++ log) created → after ≡ Some (entries_of name states ++ (name, settled []) ∷ log)
 all_entries log created after name states made back = back ∙ ap (option_map (λ (entries : Log). entries_of name states ++ entries)) made
 
@@ -127,7 +127,7 @@ by_name name other fresh disk past log false is reads =
     ap (option_map (λ (d : DiskState). d.reads)) (newest_other other name (disk ∷ past) ((name, settled []) ∷ log) is ∙ newest_other other name (settled [] ∷ []) log is)
     ∙ sym (get_contents log other)
 
-with_file : (name fresh : List ℕ) (disk : DiskState) (past : List DiskState) (log : Log) → disk.reads ≡ fresh
+pub with_file : (name fresh : List ℕ) (disk : DiskState) (past : List DiskState) (log : Log) → disk.reads ≡ fresh
     → contents_of (entries_of name (disk ∷ past) ++ (name, settled []) ∷ log) ≡ insert (contents_of log) name fresh
 with_file name fresh disk past log reads =
     same_map nat_list_cmp_total (slice_cmp-IsAntisymmetric nat_cmp-IsAntisymmetric) _ _ (λ (other : List ℕ).
@@ -147,18 +147,18 @@ now_file name fresh (disk ∷ past) more first log grew now = with_file name fre
 
 -- ---- what is answered
 
-there_is : (log : Log) (name : List ℕ) (there : Bool) → there ≡ is_some (newest_of name log) → is_some (get (contents_of log) name) ≡ there
+pub there_is : (log : Log) (name : List ℕ) (there : Bool) → there ≡ is_some (newest_of name log) → is_some (get (contents_of log) name) ≡ there
 there_is log name there is = ap is_some (get_contents log name) ∙ mapped (newest_of name log) ∙ sym is
   where
     mapped : (newest : Option DiskState) → is_some (option_map (λ (d : DiskState). d.reads) newest) ≡ is_some newest
     mapped None = refl
     mapped (Some disk) = refl
 
-not_true : (b : Bool) → false ≡ not b → true ≡ b
+pub not_true : (b : Bool) → false ≡ not b → true ≡ b
 not_true true e = refl
 not_true false e = absurd (cc)
 
-not_false : (b : Bool) → true ≡ not b → false ≡ b
+pub not_false : (b : Bool) → true ≡ not b → false ≡ b
 not_false false e = refl
 not_false true e = absurd (cc)
 

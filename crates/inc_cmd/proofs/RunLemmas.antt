@@ -5,17 +5,21 @@ use Rattle.std.proofs.lemmas.Bool.{eqb-true}
 use Rattle.std.specs.FinMap.{get}
 use Rattle.inc_disk.specs.Log.{Log}
 use Rattle.inc_io.specs.Contents.{Contents}
-use Rattle.inc_cmd.specs.Commands.{ShowsOf, plain, stored_ending}
+use Rattle.inc_cmd.specs.Commands.{ShowsOf, named_ending, plain}
 use Rattle.inc_tree.specs.shape.Geometry.{flat_of}
 use Rattle.inc_layout.specs.Fresh.{unsigned_of}
 use Rattle.inc_cmd.proofs.InputLemmas.{taken_none}
 use Rattle.inc_cmd.proofs.MakeLemmas.{adds_none, leaves_none}
 use Rattle.inc_cmd.proofs.filling.ShelfFills.{same_extends, same_leaves}
+use Rattle.inc_cmd.proofs.filling.NewShelves.{big_none}
+use Rattle.inc_cmd.specs.Commands.Big.{big_answer, big_fresh, big_pieces}
+use Rattle.inc_cmd.specs.Commands.FillMoments.{stream_pieces}
 use Rattle.inc_cmd.specs.Commands.Listing.{list_ending}
 use Rattle.inc_cmd.specs.Commands.Make.{LeavesNew, make_answer, new_file, sized}
 use Rattle.inc_words.specs.Endings.{AnswersAs, EndsAs}
-use Rattle.inc_cmd.specs.Runs.{Appends, AppendsFront, ChangesOnly, EndsAsPlain, HasCauseIn, HasEitherCause, IfLogs, IfTold, IsAnswered, KeepsShelf, KeepsUndone, LeavesFiles, Prints, PrintsFront, Settles, Shows, TakesInput, Vouches, WordsAreTold, given_to}
-use Rattle.inc_words.specs.Command.{Command, Make, Fill, Over, Listing, Misfit}
+use Rattle.inc_io.specs.Writing.{Appends, AppendsFront}
+use Rattle.inc_cmd.specs.Runs.{ChangesOnly, EndsAsPlain, HasCauseIn, HasEitherCause, IfLogs, IfTold, IsAnswered, KeepsShelf, KeepsUndone, LeavesFiles, Prints, PrintsFront, Settles, Shows, TakesInput, Vouches, WordsAreTold, given_to}
+use Rattle.inc_words.specs.Command.{Command, Make, Fill, Big, Over, Listing, Misfit}
 use Rattle.inc_words.specs.declared.words.FileCommand.{FileCommand}
 use Rattle.inc_words.specs.declared.outcome.CommandOutcome.{CommandOutcome}
 use Rattle.inc_words.specs.declared.stop.Stop.{Stop}
@@ -57,9 +61,17 @@ make_answered told now left name size id unsigned result answers = go told (give
     go (Some files) (Some given) (Ok outcome) answers = λ other. answers
     go (Some files) (Some given) (Err stop) answers = tt
 
+-- nor has a big file, which is given nothing
+pub big_answered : (told now : Option Contents) (left : Option (List ℕ)) (name : List ℕ) (number size : ℕ) (result : Result CommandOutcome Stop)
+    → IfSome told (λ files. IfOk result (λ outcome. AnswersAs (big_answer name number size files) outcome now))
+    → IfTold (Big name number size) told left (λ files given. IfOk result (λ outcome. outcome.status.0 ≢ 7 → AnswersAs (plain (Big name number size) files given) outcome now))
+big_answered None now left name number size result answers = tt
+big_answered (Some files) now left name number size (Ok outcome) answers = λ other. answers
+big_answered (Some files) now left name number size (Err stop) answers = tt
+
 -- a read of one file leaves all files as they are
 pub over_answered : (told now : Option Contents) (left : Option (List ℕ)) (name : List ℕ) (file : FileCommand) (result : Result CommandOutcome Stop) → now ≡ told
-    → IfSome told (λ files. IfOk result (EndsAs (stored_ending file name (get files name))))
+    → IfSome told (λ files. IfOk result (EndsAs (named_ending file name files)))
     → IfTold (Over name file) told left (λ files given. IfOk result (λ outcome. outcome.status.0 ≢ 7 → AnswersAs (plain (Over name file) files given) outcome now))
 over_answered None now left name file result same ends = tt
 over_answered (Some files) now left name file (Ok outcome) same ends = λ other. record { status_is = ends.status_is; text_is = ends.text_is; after_is = same }
@@ -75,13 +87,13 @@ listing_answered (Some files) now left (Err stop) same ends = tt
 -- what is shown of the bytes that were lent is shown of the file
 pub over_shows : (told : Option Contents) (read : Option (List ℕ)) (name : List ℕ) (command : FileCommand) (result : Result CommandOutcome Stop)
     → IfSome told (λ files. true ≡ is_some (get files name)) → IfSome told (λ files. read ≡ get files name)
-    → IfSome read (λ bytes. IfOk result (λ outcome. outcome.status.0 ≡ 0 → ShowsOf command bytes outcome.text.items))
-    → IfSome told (λ files. IfOk result (λ outcome. outcome.status.0 ≡ 0 → IsSomeAnd (get files name) (λ bytes. ShowsOf command bytes outcome.text.items)))
+    → IfSome read (λ bytes. IfOk result (λ outcome. outcome.status.0 ≡ 0 → ShowsOf command outcome.text.items None bytes))
+    → IfSome told (λ files. IfOk result (λ outcome. outcome.status.0 ≡ 0 → IsSomeAnd (get files name) (λ bytes. ShowsOf command outcome.text.items None bytes)))
 over_shows None read name command result there is shows = tt
-over_shows (Some files) read name command result there is shows = go (get files name) result there (subst (λ (r : Option (List ℕ)). IfSome r (λ bytes. IfOk result (λ outcome. outcome.status.0 ≡ 0 → ShowsOf command bytes outcome.text.items))) is shows)
+over_shows (Some files) read name command result there is shows = go (get files name) result there (subst (λ (r : Option (List ℕ)). IfSome r (λ bytes. IfOk result (λ outcome. outcome.status.0 ≡ 0 → ShowsOf command outcome.text.items None bytes))) is shows)
   where
-    go : (stored : Option (List ℕ)) (result : Result CommandOutcome Stop) → true ≡ is_some stored → IfSome stored (λ bytes. IfOk result (λ outcome. outcome.status.0 ≡ 0 → ShowsOf command bytes outcome.text.items))
-        → IfOk result (λ outcome. outcome.status.0 ≡ 0 → IsSomeAnd stored (λ bytes. ShowsOf command bytes outcome.text.items))
+    go : (stored : Option (List ℕ)) (result : Result CommandOutcome Stop) → true ≡ is_some stored → IfSome stored (λ bytes. IfOk result (λ outcome. outcome.status.0 ≡ 0 → ShowsOf command outcome.text.items None bytes))
+        → IfOk result (λ outcome. outcome.status.0 ≡ 0 → IsSomeAnd stored (λ bytes. ShowsOf command outcome.text.items None bytes))
     go None result there shows = absurd cc
     go (Some bytes) (Ok outcome) there shows = shows
     go (Some bytes) (Err stop) there shows = tt
@@ -92,6 +104,7 @@ over_shows (Some files) read name command result there is shows = go (get files 
 pub shelf_kept : {K : Type 0} (command : Command) (kept : K) → KeepsShelf command kept kept
 shelf_kept (Make name size id unsigned) kept = tt
 shelf_kept (Fill name) kept = tt
+shelf_kept (Big name number size) kept = tt
 shelf_kept (Over name file) kept = refl
 shelf_kept Listing kept = refl
 shelf_kept (Misfit position) kept = refl
@@ -100,6 +113,7 @@ pub nothing_changed : (log : Option Log) (command : Command) → IfLogs log log 
 nothing_changed None command = tt
 nothing_changed (Some log) (Make name size id unsigned) = adds_none (Some log) (Some log) name refl
 nothing_changed (Some log) (Fill name) = same_extends (Some log) (Some log) name refl
+nothing_changed (Some log) (Big name number size) = record { adds = adds_none (Some log) (Some log) name refl; too_large = λ large. refl }
 nothing_changed (Some log) (Over name file) = refl
 nothing_changed (Some log) Listing = refl
 nothing_changed (Some log) (Misfit position) = refl
@@ -111,7 +125,8 @@ pub nothing_left : (given : Option (List ℕ)) (log : Option Log) (command : Com
 nothing_left given None command = tt
 nothing_left None (Some log) (Make name size id unsigned) = tt
 nothing_left (Some given) (Some log) (Make name size id unsigned) = leaves_none (Some log) (Some log) name (new_file size id unsigned given) refl
-nothing_left given (Some log) (Fill name) = same_leaves (Some log) (Some log) name given refl
+nothing_left given (Some log) (Fill name) = same_leaves (Some log) (Some log) name (stream_pieces given) refl
+nothing_left given (Some log) (Big name number size) = big_none (Some log) (Some log) name (big_fresh number size) (big_pieces number size) refl
 nothing_left given (Some log) (Over name file) = refl
 nothing_left given (Some log) Listing = refl
 nothing_left given (Some log) (Misfit position) = refl
@@ -133,6 +148,7 @@ make_settles given (Some old) (Some new) name size id unsigned = tt
 pub undone : {K : Type 0} (command : Command) (kept : K) → KeepsUndone command kept kept
 undone (Make name size id unsigned) kept = refl
 undone (Fill name) kept = tt
+undone (Big name number size) kept = tt
 undone (Over name file) kept = refl
 undone Listing kept = refl
 undone (Misfit position) kept = refl
@@ -140,6 +156,7 @@ undone (Misfit position) kept = refl
 pub takes_nothing : (command : Command) (left : Option (List ℕ)) → TakesInput command left left
 takes_nothing (Make name size id unsigned) left = (0, omega arith, taken_none left)
 takes_nothing (Fill name) left = (0, taken_none left)
+takes_nothing (Big name number size) left = refl
 takes_nothing (Over name file) left = refl
 takes_nothing Listing left = refl
 takes_nothing (Misfit position) left = refl
@@ -161,6 +178,7 @@ fill_fails name before now input_before input_now result cause = record {
 pub no_memory_told : (command : Command) → WordsAreTold command 6
 no_memory_told (Make name size id unsigned) = λ e. absurd (omega (arith, e))
 no_memory_told (Fill name) = λ e. absurd (omega (arith, e))
+no_memory_told (Big name number size) = λ e. absurd (omega (arith, e))
 no_memory_told (Over name file) = λ e. absurd (omega (arith, e))
 no_memory_told Listing = λ e. absurd (omega (arith, e))
 no_memory_told (Misfit position) = inr refl
@@ -169,6 +187,7 @@ no_memory_told (Misfit position) = inr refl
 pub words_sent : (command : Command) (before after : ℕ) → WordsAreTold command before → (before < 5) ⊎ (before ≡ 7) → (before ≡ 1 → after ≡ 1) → (after ≡ 1 → before ≡ 1) → WordsAreTold command after
 words_sent (Make name size id unsigned) before after told few bad good = λ e. told (good e)
 words_sent (Fill name) before after told few bad good = λ e. told (good e)
+words_sent (Big name number size) before after told few bad good = λ e. told (good e)
 words_sent (Over name file) before after told few bad good = λ e. told (good e)
 words_sent Listing before after told few bad good = λ e. told (good e)
 words_sent (Misfit position) before after (inl is) few bad good = inl (bad is)

@@ -3,6 +3,7 @@ use Rattle.std.specs.Prelude.{◌≡◌, ◌≢◌, ◌⊎◌, ℕ, ◌++◌, Li
 use Rattle.inc_disk.specs.Disk.{DiskState, IsImage, Now, reads_of, settled}
 use Rattle.inc_disk.specs.Laws.{HoldsSince, LeavesOnly}
 use Rattle.inc_frame.specs.Fronts.{stream_front}
+use Rattle.inc_frame.specs.declared.piece.Piece.{Piece}
 use Rattle.inc_layout.specs.declared.fault.LayoutFault.{LayoutFault}
 use Rattle.inc_layout.specs.declared.opened.Opened.{Opened}
 use Rattle.inc_model.specs.relation.Step.{IsLegal}
@@ -24,7 +25,7 @@ use Rattle.inc_words.specs.declared.outcome.CommandOutcome.{CommandOutcome}
 use Rattle.inc_words.specs.declared.stop.Stop.{Stop}
 use Rattle.inc_words.specs.declared.stop.Stop.TheVariants.{Fault, OutOfMemory}
 use Rattle.inc_cmd.specs.Commands.Fill.{FileAnswer, IsFullAt, fault_place, fill_opened, fill_over, fillable_of, piece_word}
-use Rattle.inc_cmd.specs.Commands.FillMoments.{IsFillHistory, KeepsAllOpen, EndsAcknowledged, PutsPieces, fill_opening}
+use Rattle.inc_cmd.specs.Commands.FillMoments.{IsFillHistory, KeepsAllOpen, EndsAcknowledged, PutsPieces, fill_opening, stream_pieces}
 use Rattle.inc_cmd.specs.Runs.{status_of}
 
 -- ---- what is told of a fill
@@ -84,7 +85,7 @@ IsFullOr opened bytes given reads result = IfSome given (λ given. IfOk result (
 pub record FillsCell (name : List ℕ) (old : Seen) (new : List DiskState) (given : Option (List ℕ)) (result : Result CommandOutcome Stop) : Type 0 where
   pub history : List Entry
   pub legal : IsLegal 0 (tells new) old.opening history
-  pub puts : IfSome given (PutsPieces old.opened history)
+  pub puts : IfSome (stream_pieces given) (PutsPieces old.opened history)
   pub runs : (new ≡ old.states) ⊎ LeavesOnly old.states new (KeepsFront old.opening 0 history)
   pub answer : (bytes : List ℕ) → reads_of old.states ≡ Some bytes → AnswersOr name old.opened bytes given (reads_of new) result
   pub full : (bytes : List ℕ) → reads_of old.states ≡ Some bytes → IsFullOr old.opened bytes given (reads_of new) result
@@ -105,17 +106,17 @@ abbrev pub StaysAsLent : DiskState → List DiskState → Type 0
 StaysAsLent first new = HoldsSince 1 new (IsImage first)
 
 -- since the first sync whatever a crash leaves keeps a state that the history has reached
-pub record ReachesSince (given : Option (List ℕ)) (first : DiskState) (new : List DiskState) : Type 0 where
+pub record ReachesSince (pieces : Option (List Piece)) (first : DiskState) (new : List DiskState) : Type 0 where
   pub opened : Opened
   pub judged : fillable_of first.reads ≡ Ok opened
   pub later : List DiskState
   pub synced : new ≡ later ++ (settled first.reads ∷ first ∷ [])
   pub history : List Entry
-  pub is_history : IsFillHistory opened given history
+  pub is_history : IsFillHistory opened pieces history
   pub each : HoldsSince 2 new (KeepsFront (fill_opening opened) 0 history)
 
-abbrev pub LeavesDisk : Option (List ℕ) → DiskState → List DiskState → Type 0
-LeavesDisk given first new = StaysAsLent first new ⊎ ReachesSince given first new
+abbrev pub LeavesDisk : Option (List Piece) → DiskState → List DiskState → Type 0
+LeavesDisk pieces first new = StaysAsLent first new ⊎ ReachesSince pieces first new
 
 -- the file that was mounted, with as many pieces as are before a full history
 pub record FillsUp (bytes given : List ℕ) (reads : Option (List ℕ)) : Type 0 where
@@ -128,5 +129,5 @@ pub record FillsDisk (name : List ℕ) (first : DiskState) (new : List DiskState
   pub grew : (more : List DiskState) × (new ≡ more ++ (first ∷ []))
   pub answer : IfSome given (λ given. IfOk result (λ outcome. outcome.status.0 ≢ 7 → AnswersFile (fill_over name given first.reads) outcome (reads_of new)))
   pub full : IfSome given (λ given. IfOk result (λ outcome. outcome.status.0 ≡ 7 → FillsUp first.reads given (reads_of new)))
-  pub moments : LeavesDisk given first new
-  pub settled : status_of result ≢ 5 → status_of result ≢ 6 → (opened : Opened) → fillable_of first.reads ≡ Ok opened → Now new (EndsAcknowledged opened given)
+  pub moments : LeavesDisk (stream_pieces given) first new
+  pub settled : status_of result ≢ 5 → status_of result ≢ 6 → (opened : Opened) → fillable_of first.reads ≡ Ok opened → Now new (EndsAcknowledged opened (stream_pieces given))

@@ -1,3 +1,4 @@
 pub mod Commands
 pub mod FilledDisks
+pub mod NewFiles
 pub mod Runs

@@ -1,16 +1,21 @@
 -- What is promised of a run of the program beside its text, a row a command.
-use Rattle.std.specs.Prelude.{◌≡◌, ◌≢◌, ◌⊎◌, ℕ, ◌<◌, ◌≤◌, ◌++◌, Bool, true, false, not, if◌then◌else◌, List, [], drop, Option, Some, IfSome, IsSomeAnd, option_map, Result, Ok, Err}
-use Rattle.std.specs.FinMap.{get}
+use Rattle.std.specs.Prelude.{◌≡◌, ◌≢◌, ◌⊎◌, ℕ, ◌<◌, ◌≤◌, Bool, true, false, not, if◌then◌else◌, List, [], drop, Option, Some, None, IfSome, option_map, Result, Ok, Err}
 use Rattle.inc_io.specs.Causes.{Rose}
 use Rattle.inc_io.specs.Contents.{Contents}
+use Rattle.inc_io.specs.Writing.{Appends, AppendsFront}
 use Rattle.inc_disk.specs.Log.{Log}
 use Rattle.inc_cmd.specs.Commands.{ShowsOf, VouchesOf, plain}
+use Rattle.inc_cmd.specs.Commands.Big.{big_file, big_filled, big_fresh, big_pieces}
+use Rattle.inc_cmd.specs.Commands.BigMoments.{AddsBig, IsBigMade, LeavesBig, SettlesBig}
+use Rattle.inc_cmd.specs.Commands.Check.{AreAllProved}
 use Rattle.inc_cmd.specs.Commands.Fill.{EndsFull}
 use Rattle.inc_cmd.specs.Commands.Listing.{ListsNames}
+use Rattle.inc_cmd.specs.Commands.Names.{HoldsOfName}
+use Rattle.inc_mapped.specs.Mapping.{Mapping}
 use Rattle.inc_cmd.specs.Commands.Make.{AddsOnly, IsMade, LeavesNew, most_taken, new_file}
-use Rattle.inc_cmd.specs.Commands.FillMoments.{EndsSettled, ExtendsOnly, LeavesFilled}
+use Rattle.inc_cmd.specs.Commands.FillMoments.{EndsSettled, ExtendsOnly, LeavesFilled, stream_pieces}
 use Rattle.inc_words.specs.Endings.{Answer}
-use Rattle.inc_words.specs.Command.{Command, Make, Fill, Over, Listing, Misfit}
+use Rattle.inc_words.specs.Command.{Command, Make, Fill, Big, Over, Listing, Misfit}
 use Rattle.inc_words.specs.declared.outcome.CommandOutcome.{CommandOutcome}
 use Rattle.inc_words.specs.declared.stop.Stop.{Stop}
 use Rattle.inc_words.specs.declared.stop.Stop.TheVariants.{Fault, OutOfMemory}
@@ -28,15 +33,7 @@ pub record IsTold (before now status : ℕ) : Type 0 where
 
 -- ---- the output
 
--- a sink took this text and no more
-abbrev pub Appends : Option (List ℕ) → Option (List ℕ) → List ℕ → Type 0
-Appends before after text = after ≡ option_map (λ bytes. bytes ++ text) before
-
--- a sink took some front of this text
-abbrev pub AppendsFront : Option (List ℕ) → Option (List ℕ) → List ℕ → Type 0
-AppendsFront before after text = (front : List ℕ) × (rest : List ℕ) × (front ++ rest ≡ text) × Appends before after front
-
--- it took all of a text with P
+-- a sink took all of a text with P
 pub record Prints (before after : Option (List ℕ)) (P : List ℕ → Type 0) : Type 0 where
   pub text : List ℕ
   pub holds : P text
@@ -60,6 +57,7 @@ IfLogs before after P = IfSome before (λ old. IfSome after (λ new. P old new))
 abbrev pub reads_input : Command → Bool
 reads_input (Make name size id unsigned) = not unsigned
 reads_input (Fill name) = true
+reads_input (Big name number size) = false
 reads_input (Over name command) = false
 reads_input Listing = false
 reads_input (Misfit position) = false
@@ -92,6 +90,7 @@ TakesFront most before after = (count : ℕ) × (count ≤ most) × (after ≡ o
 abbrev pub TakesInput : Command → Option (List ℕ) → Option (List ℕ) → Type 0
 TakesInput (Make name size id unsigned) before after = TakesFront most_taken before after
 TakesInput (Fill name) before after = TakesSome before after
+TakesInput (Big name number size) before after = after ≡ before
 TakesInput (Over name command) before after = after ≡ before
 TakesInput Listing before after = after ≡ before
 TakesInput (Misfit position) before after = after ≡ before
@@ -114,6 +113,7 @@ abbrev pub WordsAreTold : Command → ℕ → Type 0
 WordsAreTold (Misfit position) status = (status ≡ 1) ⊎ (status ≡ 6)
 WordsAreTold (Make name size id unsigned) status = status ≢ 1
 WordsAreTold (Fill name) status = status ≢ 1
+WordsAreTold (Big name number size) status = status ≢ 1
 WordsAreTold (Over name command) status = status ≢ 1
 WordsAreTold Listing status = status ≢ 1
 
@@ -143,6 +143,7 @@ pub record HasEitherCause {T : Type 0} (before now input_before input_now : ℕ)
 abbrev pub KeepsShelf : {K : Type 0} → Command → K → K → Type 0
 KeepsShelf (Make name size id unsigned) before now = Unit {0}
 KeepsShelf (Fill name) before now = Unit {0}
+KeepsShelf (Big name number size) before now = Unit {0}
 KeepsShelf (Over name command) before now = now ≡ before
 KeepsShelf Listing before now = now ≡ before
 KeepsShelf (Misfit position) before now = now ≡ before
@@ -151,38 +152,46 @@ KeepsShelf (Misfit position) before now = now ≡ before
 abbrev pub ChangesOnly : Command → Log → Log → Type 0
 ChangesOnly (Make name size id unsigned) before after = AddsOnly name before after
 ChangesOnly (Fill name) before after = ExtendsOnly name before after
+ChangesOnly (Big name number size) before after = AddsBig name size before after
 ChangesOnly (Over name command) before after = after ≡ before
 ChangesOnly Listing before after = after ≡ before
 ChangesOnly (Misfit position) before after = after ≡ before
 
--- what is left where the input failed, and where the command isn't done: a fill's pieces before that are in, by the moments below
+-- what is left where the input failed, and where the command isn't done: a fill's pieces before that are in, by the moments below, and so is
+-- what there is of a big file, unless its name or its size is refused
 abbrev pub KeepsUndone : {K : Type 0} → Command → K → K → Type 0
 KeepsUndone (Make name size id unsigned) before now = now ≡ before
 KeepsUndone (Fill name) before now = Unit {0}
+KeepsUndone (Big name number size) before now = Unit {0}
 KeepsUndone (Over name command) before now = now ≡ before
 KeepsUndone Listing before now = now ≡ before
 KeepsUndone (Misfit position) before now = now ≡ before
 
--- What a crash at any moment of the run leaves. Of a make it hangs on what the input gives; of a fill only which pieces were put does.
+-- What a crash at any moment of the run leaves. Of a make it hangs on what the input gives; of a fill only which pieces were put does. A big
+-- file is made as by a make and then filled.
 abbrev pub LeavesFiles : Command → Option (List ℕ) → Log → Log → Type 0
 LeavesFiles (Make name size id unsigned) given before after = IfSome given (λ given. LeavesNew name (new_file size id unsigned given) before after)
-LeavesFiles (Fill name) given before after = LeavesFilled name given before after
+LeavesFiles (Fill name) given before after = LeavesFilled name (stream_pieces given) before after
+LeavesFiles (Big name number size) given before after = LeavesBig name (big_fresh number size) (big_pieces number size) before after
 LeavesFiles (Over name command) given before after = after ≡ before
 LeavesFiles Listing given before after = after ≡ before
 LeavesFiles (Misfit position) given before after = after ≡ before
 
--- what a crash leaves of a run that wasn't stopped from outside: of a fill all that is open
+-- what a crash leaves of a run that wasn't stopped from outside: of a fill and of a big file all that is open
 abbrev pub Settles : Command → Option (List ℕ) → Log → Log → Type 0
 Settles (Make name size id unsigned) given before after = Unit {0}
-Settles (Fill name) given before after = EndsSettled name given before after
+Settles (Fill name) given before after = EndsSettled name (stream_pieces given) before after
+Settles (Big name number size) given before after = SettlesBig name number size before after
 Settles (Over name command) given before after = after ≡ before
 Settles Listing given before after = after ≡ before
 Settles (Misfit position) given before after = after ≡ before
 
--- what stands where a history is full: the file with at least so many pieces of the stream. No command but a fill has one
+-- what stands where a history is full: the file with at least so many pieces of the stream. No command but a fill has one: a history has
+-- room for the largest generated content
 abbrev pub HasFullHistory : Command → Option Contents → Option (List ℕ) → Option Contents → Type 0
 HasFullHistory (Make name size id unsigned) files given now = ⊥
 HasFullHistory (Fill name) files given now = IfSome files (λ files. IfSome given (λ given. EndsFull name files given now))
+HasFullHistory (Big name number size) files given now = ⊥
 HasFullHistory (Over name command) files given now = ⊥
 HasFullHistory Listing files given now = ⊥
 HasFullHistory (Misfit position) files given now = ⊥
@@ -191,24 +200,28 @@ HasFullHistory (Misfit position) files given now = ⊥
 abbrev pub Made : Command → List ℕ → Log → Type 0
 Made (Make name size id unsigned) given after = IsMade name (new_file size id unsigned given) after
 Made (Fill name) given after = Unit {0}
+Made (Big name number size) given after = IsBigMade name number size after
 Made (Over name command) given after = Unit {0}
 Made Listing given after = Unit {0}
 Made (Misfit position) given after = ⊥
 
 -- ---- what status 0 means
 
--- over the files: a make and a fill show no block; a listing says of each name what stands there
+-- over the files: a make and a fill show no block; of a big file each block is proved against the root of its content; of a name it is what its
+-- file holds, or the part of its original that it shows; a listing says of each name what stands there
 abbrev pub Shows : Command → Contents → List ℕ → Type 0
 Shows (Make name size id unsigned) files text = Unit {0}
 Shows (Fill name) files text = Unit {0}
-Shows (Over name command) files text = IsSomeAnd (get files name) (λ bytes. ShowsOf command bytes text)
+Shows (Big name number size) files text = AreAllProved (big_filled number size).bytes (Some (big_file number size).root) None
+Shows (Over name command) files text = HoldsOfName files name (ShowsOf command text)
 Shows Listing files text = ListsNames files text
 Shows (Misfit position) files text = ⊥
 
--- whatever the shelf tells
+-- whatever the shelf tells, also which names are mapped
 abbrev pub Vouches : Command → List ℕ → Type 0
 Vouches (Make name size id unsigned) text = Unit {0}
 Vouches (Fill name) text = Unit {0}
-Vouches (Over name command) text = VouchesOf command text
+Vouches (Big name number size) text = Unit {0}
+Vouches (Over name command) text = (part : Option Mapping) × VouchesOf command part text
 Vouches Listing text = Unit {0}
 Vouches (Misfit position) text = ⊥

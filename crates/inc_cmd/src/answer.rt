@@ -6,7 +6,7 @@ ghost use Rattle.inc_cmd.specs.Runs.{ChangesOnly, HasCauseIn, IfLogs, IfTold, Ha
 ghost use Rattle.inc_words.specs.Parsing.{named};
 ghost use Rattle.inc_words.specs.Words.{command_in};
 
-use crate::commands::{fill_name, list_names, make_new, over_name};
+use crate::commands::{fill_name, list_names, make_big, make_new, over_name};
 use inc_disk::Shelf;
 use inc_io::Source;
 use inc_words::{Command, CommandOutcome, Status, Stop, WordsFault, parse_words, words_line};
@@ -94,6 +94,7 @@ fn act<S: Shelf, I: Source>(
             unsigned,
         } => make_new(alloc, &name, size, id, unsigned, shelf, input),
         Command::Fill { name } => fill_name(alloc, &name, shelf, input),
+        Command::Big { name, number, size } => make_big(alloc, &name, number, size, shelf),
         Command::Over { name, command } => over_name(alloc, &name, command, shelf),
         Command::Listing => list_names(alloc, shelf),
     }

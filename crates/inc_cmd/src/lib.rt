@@ -11,7 +11,7 @@ mod run;
 // A file a command.
 mod commands;
 
-// Where bytes come from and go.
+// Where bytes come from.
 mod streams;
 
 pub use run::run_plain;

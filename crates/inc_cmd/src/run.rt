@@ -1,13 +1,13 @@
 ghost use Rattle.std.specs.Prelude.{◌≡◌, ◌≢◌, ◌⊎◌, ◌<◌, ◌≤◌, [], false, IfSome};
 ghost use Rattle.inc_io.specs.Causes.{Rose};
+ghost use Rattle.inc_io.specs.Writing.{Appends, AppendsFront};
 ghost use Rattle.inc_io.specs.Outside.{NoneOut};
-ghost use Rattle.inc_cmd.specs.Runs.{Appends, AppendsFront, ChangesOnly, EndsAsPlain, HasFailed, IfLogs, HasFullHistory, IsQuiet, IsTold, KeepsInput, KeepsShelf, KeepsUndone, LeavesFiles, Made, Prints, PrintsFront, Settles, Shows, TakesInput, Vouches, WordsAreTold, given_to, reads_input};
+ghost use Rattle.inc_cmd.specs.Runs.{ChangesOnly, EndsAsPlain, HasFailed, IfLogs, HasFullHistory, IsQuiet, IsTold, KeepsInput, KeepsShelf, KeepsUndone, LeavesFiles, Made, Prints, PrintsFront, Settles, Shows, TakesInput, Vouches, WordsAreTold, given_to, reads_input};
 ghost use Rattle.inc_words.specs.Words.{command_in};
 
 use crate::answer::answer;
-use crate::streams::output::write_all;
 use inc_disk::Shelf;
-use inc_io::{Clock, Sink, Source};
+use inc_io::{Clock, Sink, Source, write_all};
 use inc_words::{CommandOutcome, Status, Stop};
 use std::alloc::Global;
 
@@ -31,10 +31,10 @@ pub fn run_plain<S: Shelf, I: Source, O: Sink, C: Clock>(
     ensures silent { result.0 ≡ 7 → Appends (O.written out.old) (O.written out.new) [] }
     // In any case what was written is a front of the definition's text.
     ensures front { PrintsFront (command_in words.now) (S.contents (S.kept shelf.old)) (I.left input.old) (O.written out.old) (O.written out.new) }
-    // At status 0 a block that is shown is the file's, and proved, or marked as unproved; the blocks of a checked file are all proved; and a
-    // listing says of each name what stands there.
+    // At status 0 what is shown of a block is the file's, of a mapped name its original's, and proved, or marked as unproved; the blocks that a
+    // checked name shows are all proved; and a listing says of each name what stands there.
     ensures proved { result.0 ≡ 0 → IfSome (S.contents (S.kept shelf.old)) (λ files. Prints (O.written out.old) (O.written out.new) (Shows (command_in words.now) files)) }
-    // Whatever the shelf tells: a path leads from a block that is shown to a root.
+    // Whatever the shelf tells: a path leads from what is shown of a block to a root.
     ensures vouched { result.0 ≡ 0 → Prints (O.written out.old) (O.written out.new) (Vouches (command_in words.now)) }
 
     // Each status but 6 has its cause, and a count of faults that grew is told.
@@ -59,9 +59,9 @@ pub fn run_plain<S: Shelf, I: Source, O: Sink, C: Clock>(
     // A make changes no other name, and none that is there; a fill changes no other name, and adds none.
     ensures others { IfLogs (S.log (S.kept shelf.old)) (S.log (S.kept shelf.new)) (ChangesOnly (command_in words.now)) }
     // A crash at any moment leaves of a make's file none, or bytes that are refused, or all of it; of a fill's file what it might have left at
-    // the start, or a file that keeps a state which the fill's history has reached.
+    // the start, or a file that keeps a state which the fill's history has reached; of a big file the one and then the other.
     ensures moments { IfLogs (S.log (S.kept shelf.old)) (S.log (S.kept shelf.new)) (LeavesFiles (command_in words.now) (given_to (command_in words.now) (I.left input.old))) }
-    // After a fill that wasn't stopped from outside, a crash leaves each block that is open.
+    // After a fill that wasn't stopped from outside, also a big file's, a crash leaves each block that is open.
     ensures settled { result.0 ≢ 5 → result.0 ≢ 6 → IfLogs (S.log (S.kept shelf.old)) (S.log (S.kept shelf.new)) (Settles (command_in words.now) (given_to (command_in words.now) (I.left input.old))) }
     // What is told as made stands whole, and no crash changes it.
     ensures made { result.0 ≡ 0 → IfSome (given_to (command_in words.now) (I.left input.old)) (λ given. IfSome (S.log (S.kept shelf.new)) (Made (command_in words.now) given)) }

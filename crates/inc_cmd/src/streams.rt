@@ -1,3 +1,2 @@
-// The input that a command takes and the output that it writes.
+// The input that a command takes.
 pub mod input;
-pub mod output;

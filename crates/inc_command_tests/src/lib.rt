@@ -18,9 +18,13 @@ mod checking;
 #[cfg(test)]
 mod filling;
 #[cfg(test)]
+mod generated;
+#[cfg(test)]
 mod listing;
 #[cfg(test)]
 mod making;
+#[cfg(test)]
+mod mapped;
 #[cfg(test)]
 mod ranging;
 #[cfg(test)]

@@ -116,7 +116,7 @@ const OF_A_HEADER: &[Change] = &[
     },
     Change {
         places: &[(20, 2), (24, 0)],
-        says: "mapped",
+        says: "no-original",
     },
     Change {
         places: &[(36, 4)],

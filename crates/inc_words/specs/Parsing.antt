@@ -2,7 +2,7 @@
 use Rattle.std.specs.Prelude.{◌≡◌, ℕ, List, Option, Result, Ok, Err}
 use Rattle.inc_words.specs.Command as words
 use Rattle.inc_words.specs.declared.words.Command.{Command}
-use Rattle.inc_words.specs.declared.words.Command.TheVariants.{Make, Fill, Over, Listing}
+use Rattle.inc_words.specs.declared.words.Command.TheVariants.{Big, Make, Fill, Over, Listing}
 use Rattle.inc_words.specs.declared.words.WordsFault.{WordsFault}
 use Rattle.inc_words.specs.declared.words.WordsFault.TheVariants.{Bad, OutOfMemory}
 
@@ -10,6 +10,7 @@ use Rattle.inc_words.specs.declared.words.WordsFault.TheVariants.{Bad, OutOfMemo
 abbrev pub named : Command → words.Command
 named (Make name size id unsigned) = words.Make name size id unsigned
 named (Fill name) = words.Fill name
+named (Big name number size) = words.Big name number size
 named (Over name command) = words.Over name command
 named Listing = words.Listing
 

@@ -50,3 +50,15 @@ filled_counts written present = codes " written " ++ decimal written ++ codes " 
 -- `filled NAME written W present P`
 unfoldable pub fill_line : List ℕ → ℕ → ℕ → List ℕ
 fill_line name written present = codes "filled " ++ name ++ filled_counts written present ++ 10 ∷ []
+
+-- ` size S data N hash M`
+unfoldable pub big_counts : ℕ → ℕ → ℕ → List ℕ
+big_counts size data_count hash_count = codes " size " ++ decimal size ++ codes " data " ++ decimal data_count ++ codes " hash " ++ decimal hash_count
+
+-- `big NAME size S data N hash M`
+unfoldable pub big_line : List ℕ → ℕ → ℕ → ℕ → List ℕ
+big_line name size data_count hash_count = codes "big " ++ name ++ big_counts size data_count hash_count ++ 10 ∷ []
+
+-- `filled W`
+unfoldable pub written_line : ℕ → List ℕ
+written_line written = codes "filled " ++ decimal written ++ 10 ∷ []

@@ -8,11 +8,13 @@
 --     inspect NAME
 --     ranges NAME START END ROOM
 --     list
+--     big NAME NUMBER SIZE
 use Rattle.std.specs.Prelude.{ℕ, if◌then◌else◌, List, [], ◌∷◌, bytes_eq, map}
 use Rattle.std.specs.String.{string_bytes}
 use Rattle.std.specs.declared.alloc.Global.{Global}
 use Rattle.std.specs.declared.string.String.{String}
 use Rattle.inc_words.specs.Command.{Command, Misfit}
+use Rattle.inc_words.specs.Words.Big.{big_name, big_word}
 use Rattle.inc_words.specs.Words.Check.{check_name, check_word}
 use Rattle.inc_words.specs.Words.Fill.{fill_command, fill_name}
 use Rattle.inc_words.specs.Words.Inspect.{inspect_name, inspect_word}
@@ -20,6 +22,7 @@ use Rattle.inc_words.specs.Words.Listing.{list_end, list_word}
 use Rattle.inc_words.specs.Words.Make.{make_name, make_word}
 use Rattle.inc_words.specs.Words.Ranges.{ranges_name, ranges_word}
 use Rattle.inc_words.specs.Words.Read.{read_name, read_word}
+pub mod Big
 pub mod Check
 pub mod Fill
 pub mod Inspect
@@ -39,6 +42,7 @@ command_of (word ∷ words) =
     else if bytes_eq word inspect_word then inspect_name words
     else if bytes_eq word ranges_word then ranges_name words
     else if bytes_eq word list_word then list_end words
+    else if bytes_eq word big_word then big_name words
     else Misfit 0
 
 -- the command that a program's words name

@@ -18,7 +18,9 @@ mod texts;
 pub use outcome::{CommandOutcome, refuse, refuse_block, refuse_layout, refuse_stream};
 pub use status::Status;
 pub use stop::Stop;
-pub use texts::lines::{checked_line, fill_line, made_line, part_of, refused_line, words_line};
+pub use texts::lines::{
+    big_line, checked_line, fill_line, made_line, part_of, refused_line, words_line, written_line,
+};
 pub use texts::refusals::{
     bad_range, exists, layout_word, missing, no_original, past_original, root_differs, same_id,
     signature_word, too_large, too_long, unknown_file, unsigned,

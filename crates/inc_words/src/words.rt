@@ -4,6 +4,7 @@ ghost use Rattle.inc_words.specs.Parsing.{Reads};
 ghost use Rattle.inc_words.specs.Words.{command_of};
 ghost use Rattle.inc_words.specs.declared.words.WordsFault.TheVariants.{OutOfMemory as out_of_memory};
 
+mod big;
 mod check;
 mod fill;
 mod inspect;
@@ -13,6 +14,7 @@ mod ranges;
 mod read;
 mod root;
 
+use big::{is_big, parse_big};
 use check::{is_check, parse_check};
 use fill::{is_fill, parse_fill};
 use inc_bytes::Id;
@@ -38,6 +40,12 @@ pub enum Command {
     /// Fill the pieces of the stream in the input into the file.
     Fill {
         name: Name,
+    },
+    /// Make a new file for the generated content of this number and size, fill it and check it.
+    Big {
+        name: Name,
+        number: u64,
+        size: u64,
     },
     /// Read the named file, and write nothing.
     Over {
@@ -108,6 +116,8 @@ pub fn parse_words(alloc: Global, words: &[String]) -> Result<Command, WordsFaul
                 parse_ranges(alloc, rest)
             } else if is_list(word.as_str()) {
                 parse_list(rest)
+            } else if is_big(word.as_str()) {
+                parse_big(alloc, rest)
             } else {
                 Err(WordsFault::Bad { at: 0 })
             }

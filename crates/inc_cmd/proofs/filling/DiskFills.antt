@@ -30,12 +30,12 @@ use Rattle.inc_words.specs.declared.outcome.CommandOutcome.{CommandOutcome}
 use Rattle.inc_words.specs.declared.stop.Stop.{Stop}
 use Rattle.inc_words.specs.declared.stop.Stop.TheVariants as stop
 use Rattle.inc_cmd.specs.Commands.Fill.{fill_judged, fill_over, fillable_of}
-use Rattle.inc_cmd.specs.Commands.FillMoments.{EndsAcknowledged, IsFillHistory, KeepsAllOpen, PutsPieces, fill_opening}
+use Rattle.inc_cmd.specs.Commands.FillMoments.{EndsAcknowledged, IsFillHistory, KeepsAllOpen, PutsPieces, fill_opening, stream_pieces}
 use Rattle.inc_cmd.specs.FilledDisks.{AnswersFile, AnswersOr, FillsCell, FillsDisk, FillsUp, IsFullOr, IsRefusedFile, LeavesDisk, ReachesSince, StaysAsLent}
 use Rattle.inc_cmd.specs.Runs.{status_of}
 use Rattle.inc_cmd.proofs.filling.Refused.{mounted_fillable}
 
-one_opened : {E : Type 0} (found : Result Opened E) (a b : Opened) → found ≡ Ok a → found ≡ Ok b → a ≡ b
+pub one_opened : {E : Type 0} (found : Result Opened E) (a b : Opened) → found ≡ Ok a → found ≡ Ok b → a ≡ b
 one_opened found a b first second = cc
 
 none_opened : {E : Type 0} (found : Result Opened E) (a : Opened) (fault : E) → found ≡ Ok a → found ≡ Err fault → ⊥
@@ -120,16 +120,16 @@ opened_parts_of found =
       none_begun = refl;
     }
 
-no_puts : (opened : Opened) (given : List ℕ) → PutsPieces opened [] given
-no_puts opened given = record { count = 0; puts_are = ap (piece_puts opened) (sym (none (taken_pieces opened (stream_front given).pieces))) }
+pub no_puts : (opened : Opened) (pieces : List Piece) → PutsPieces opened [] pieces
+no_puts opened pieces = record { count = 0; puts_are = ap (piece_puts opened) (sym (none (taken_pieces opened pieces))) }
   where
     none : (pieces : List Piece) → take 0 pieces ≡ []
     none [] = refl
     none (piece ∷ pieces) = refl
 
-no_history : (found : Opened) (before : Option (List ℕ)) → IsFillHistory found before []
+pub no_history : (found : Opened) (pieces : Option (List Piece)) → IsFillHistory found pieces []
 no_history found None = record { legal = tt; puts = tt }
-no_history found (Some given) = record { legal = tt; puts = no_puts (counted found) given }
+no_history found (Some pieces) = record { legal = tt; puts = no_puts (counted found) pieces }
 
 -- ---- a file that isn't mounted
 
@@ -148,7 +148,7 @@ never_full bytes (Some given) new (Err why) three = tt
 never_full bytes (Some given) new (Ok outcome) three = λ seven. absurd (omega arith)
 
 refused_unsettled : (name bytes : List ℕ) (before : Option (List ℕ)) (new : List DiskState) (told : Result CommandOutcome Stop) → IfOk told (IsRefusedFile name bytes)
-    → status_of told ≢ 5 → status_of told ≢ 6 → (opened : Opened) → fillable_of bytes ≡ Ok opened → Now new (EndsAcknowledged opened before)
+    → status_of told ≢ 5 → status_of told ≢ 6 → (opened : Opened) → fillable_of bytes ≡ Ok opened → Now new (EndsAcknowledged opened (stream_pieces before))
 refused_unsettled name bytes before new (Ok outcome) refused five six opened is = absurd (none_opened (fillable_of bytes) opened refused.fault is refused.judged)
 refused_unsettled name bytes before new (Err stop.Fault) refused five six opened is = absurd (five refl)
 refused_unsettled name bytes before new (Err stop.OutOfMemory) refused five six opened is = absurd (six refl)
@@ -173,7 +173,7 @@ fault_answer P None told is = tt
 fault_answer P (Some given) told is = subst (λ (r : Result CommandOutcome Stop). IfOk r (P given)) (sym is) tt
 
 disk_fault : (name : List ℕ) (first : DiskState) (new : List DiskState) (before : Option (List ℕ)) (told : Result CommandOutcome Stop) → told ≡ Err stop.Fault
-    → ((more : List DiskState) × (new ≡ more ++ (first ∷ []))) → LeavesDisk before first new → FillsDisk name first new before told
+    → ((more : List DiskState) × (new ≡ more ++ (first ∷ []))) → LeavesDisk (stream_pieces before) first new → FillsDisk name first new before told
 disk_fault name first new before told is grew leaves = record {
   grew = grew;
   answer = fault_answer _ before told is;
@@ -182,15 +182,15 @@ disk_fault name first new before told is grew leaves = record {
   settled = λ five six. absurd (five (ap status_of is));
 }
 
-since_sync : (first : DiskState) (new : List DiskState) (before : Option (List ℕ)) (found : Opened) → layout_of first.reads ≡ Ok found → AreOpened found (parts_of (fill_opening found))
-    → LeavesOnly (settled first.reads ∷ first ∷ []) new (IsSameButCounts first.reads) → ReachesSince before first new
-since_sync first new before found is opened leaves = record {
+since_sync : (first : DiskState) (new : List DiskState) (pieces : Option (List Piece)) (found : Opened) → layout_of first.reads ≡ Ok found → AreOpened found (parts_of (fill_opening found))
+    → LeavesOnly (settled first.reads ∷ first ∷ []) new (IsSameButCounts first.reads) → ReachesSince pieces first new
+since_sync first new pieces found is opened leaves = record {
   opened = found;
   judged = mounted_fillable first.reads found is;
   later = leaves.grew.0;
   synced = leaves.grew.1;
   history = [];
-  is_history = no_history found before;
+  is_history = no_history found pieces;
   each = λ image left. begins first.reads image found [] is opened (leaves.each image left);
 }
 
@@ -202,30 +202,29 @@ mount_failed name first new before told is cut (inl unsynced_is) = disk_fault na
 mount_failed name first new before told is (inl never) (inr needs) = disk_fault name first new before told is never.1.grew (inl (never_synced first new never.1))
 mount_failed name first new before told is (inr since) (inr needs) =
     disk_fault name first new before told is (grew_past first new (IsSameButCounts first.reads) since)
-    (inr (since_sync first new before needs.found needs.found_is (opened_parts_of needs.found) since))
+    (inr (since_sync first new (stream_pieces before) needs.found needs.found_is (opened_parts_of needs.found) since))
 
 -- ---- a file that is mounted
 
-tells_more : (more : List DiskState) (disk : DiskState) (past : List DiskState) → tells (more ++ (disk ∷ past)) ≡ true
+pub tells_more : (more : List DiskState) (disk : DiskState) (past : List DiskState) → tells (more ++ (disk ∷ past)) ≡ true
 tells_more [] disk past = refl
 tells_more (newer ∷ more) disk past = refl
 
-counted_reads : (first : DiskState) (mid : List DiskState) (found : Opened) (more : List DiskState) → mid ≡ more ++ (settled first.reads ∷ first ∷ []) → layout_of first.reads ≡ Ok found → Now mid (HasRightCounts first.reads)
-    → reads_of mid ≡ Some (counted_bytes found first.reads)
-counted_reads first [] found more grew is right = absurd (none more grew)
+pub counted_reads : (bytes : List ℕ) (mid : List DiskState) (found : Opened) (more : List DiskState) (disk : DiskState) (past : List DiskState) → mid ≡ more ++ (disk ∷ past) → layout_of bytes ≡ Ok found → Now mid (HasRightCounts bytes)
+    → reads_of mid ≡ Some (counted_bytes found bytes)
+counted_reads bytes [] found more disk past grew is right = absurd (none more grew)
   where
-    none : (more : List DiskState) → [] ≡ more ++ (settled first.reads ∷ first ∷ []) → ⊥
+    none : (more : List DiskState) → [] ≡ more ++ (disk ∷ past) → ⊥
     none [] e = absurd (cc)
-    none (disk ∷ past) e = absurd (cc)
-counted_reads first (disk ∷ past) found more grew is right =
-    ap (λ (bytes : List ℕ). Some bytes) (right.reads_is ∙ ap (λ (o : Opened). counted_bytes o first.reads) (one_opened (layout_of first.reads) right.found found right.found_is is))
+    none (newer ∷ more) e = absurd (cc)
+counted_reads bytes (newest ∷ states) found more disk past grew is right =
+    ap (λ (bytes : List ℕ). Some bytes) (right.reads_is ∙ ap (λ (o : Opened). counted_bytes o bytes) (one_opened (layout_of bytes) right.found found right.found_is is))
 
 -- the states since the first one
-grows_on : (first : DiskState) (mid new : List DiskState) (P Q : List ℕ → Type 0) → LeavesOnly (settled first.reads ∷ first ∷ []) mid P → (new ≡ mid) ⊎ LeavesOnly mid new Q
-    → (later : List DiskState) × (new ≡ later ++ (settled first.reads ∷ first ∷ []))
-grows_on first mid new P Q leaves (inl same) = (leaves.grew.0, same ∙ leaves.grew.1)
-grows_on first mid new P Q leaves (inr runs) =
-    (runs.grew.0 ++ leaves.grew.0, runs.grew.1 ∙ ap (λ (ds : List DiskState). runs.grew.0 ++ ds) leaves.grew.1 ∙ sym (append_assoc runs.grew.0 leaves.grew.0 (settled first.reads ∷ first ∷ [])))
+pub grows_on : (base mid new : List DiskState) (P Q : List ℕ → Type 0) → LeavesOnly base mid P → (new ≡ mid) ⊎ LeavesOnly mid new Q → (later : List DiskState) × (new ≡ later ++ base)
+grows_on base mid new P Q leaves (inl same) = (leaves.grew.0, same ∙ leaves.grew.1)
+grows_on base mid new P Q leaves (inr runs) =
+    (runs.grew.0 ++ leaves.grew.0, runs.grew.1 ∙ ap (λ (ds : List DiskState). runs.grew.0 ++ ds) leaves.grew.1 ∙ sym (append_assoc runs.grew.0 leaves.grew.0 base))
 
 each_since : (first : DiskState) (mid new : List DiskState) (P Q : List ℕ → Type 0) → LeavesOnly (settled first.reads ∷ first ∷ []) mid P → ((image : List ℕ) → P image → Q image) → (new ≡ mid) ⊎ LeavesOnly mid new Q
     → HoldsSince 2 new Q
@@ -245,20 +244,20 @@ judged_full bytes found None new told judged full = tt
 judged_full bytes found (Some given) new (Err why) judged full = tt
 judged_full bytes found (Some given) new (Ok outcome) judged full = λ seven. record { opened = found; judged = judged; full = full seven }
 
-settled_open : (found : Opened) (before : Option (List ℕ)) (history : List Entry) (new : List DiskState) → IsFillHistory found before history → Now new (KeepsAllOpen (counted found) (fill_opening found) history)
-    → Now new (EndsAcknowledged found before)
-settled_open found before history [] is holds = tt
-settled_open found before history (disk ∷ past) is holds = record { history = history; is_history = is; holds = record { keeps = holds.keeps; acknowledged = holds.acknowledged } }
+pub settled_open : (found : Opened) (pieces : Option (List Piece)) (history : List Entry) (new : List DiskState) → IsFillHistory found pieces history → Now new (KeepsAllOpen (counted found) (fill_opening found) history)
+    → Now new (EndsAcknowledged found pieces)
+settled_open found pieces history [] is holds = tt
+settled_open found pieces history (disk ∷ past) is holds = record { history = history; is_history = is; holds = record { keeps = holds.keeps; acknowledged = holds.acknowledged } }
 
 counted_fills : (name : List ℕ) (first : DiskState) (mid new : List DiskState) (found : Opened) (before : Option (List ℕ)) (told : Result CommandOutcome Stop) → layout_of first.reads ≡ Ok found
     → AreOpened found (parts_of (fill_opening found)) → Now mid (HasRightCounts first.reads) → LeavesOnly (settled first.reads ∷ first ∷ []) mid (IsSameButCounts first.reads)
     → FillsCell name (cell_on mid 0 (counted found) 0) new before told → FillsDisk name first new before told
 counted_fills name first mid new found before told is opened right leaves fills =
     let judged = mounted_fillable first.reads found is in
-    let reads = counted_reads first mid found leaves.grew.0 leaves.grew.1 is right in
-    let grows = grows_on first mid new (IsSameButCounts first.reads) (KeepsFront (fill_opening found) 0 fills.history) leaves fills.runs in
+    let reads = counted_reads first.reads mid found leaves.grew.0 (settled first.reads) (first ∷ []) leaves.grew.1 is right in
+    let grows = grows_on (settled first.reads ∷ first ∷ []) mid new (IsSameButCounts first.reads) (KeepsFront (fill_opening found) 0 fills.history) leaves fills.runs in
     let told_all : tells new ≡ true = ap tells grows.1 ∙ tells_more grows.0 (settled first.reads) (first ∷ []) in
-    let history : IsFillHistory found before fills.history = record {
+    let history : IsFillHistory found (stream_pieces before) fills.history = record {
       legal = subst (λ (b : Bool). IsLegal 0 b (fill_opening found) fills.history) told_all fills.legal;
       puts = fills.puts;
     } in
@@ -276,8 +275,8 @@ counted_fills name first mid new found before told is opened right leaves fills 
         each = each_since first mid new (IsSameButCounts first.reads) (KeepsFront (fill_opening found) 0 fills.history) leaves (λ image same. begins first.reads image found fills.history is opened same) fills.runs;
       });
       settled = λ five six other other_is.
-          subst (λ (o : Opened). Now new (EndsAcknowledged o before)) (one_opened (fillable_of first.reads) found other judged other_is)
-          (settled_open found before fills.history new history (fills.settled five six));
+          subst (λ (o : Opened). Now new (EndsAcknowledged o (stream_pieces before))) (one_opened (fillable_of first.reads) found other judged other_is)
+          (settled_open found (stream_pieces before) fills.history new history (fills.settled five six));
     }
 
 pub mounted_fills : (name : List ℕ) (first : DiskState) (mid new : List DiskState) (opened : Opened) (before : Option (List ℕ)) (told : Result CommandOutcome Stop) → GivesMounted (Ok opened) (layout_of first.reads) → Now mid (HasRightCounts first.reads) → IsCutAtSync (first ∷ []) mid first.reads (Ok opened)
@@ -335,9 +334,9 @@ no_cell name mid new opened before same = record {
   settled = λ five six. absurd (six refl);
 }
   where
-    puts : (before : Option (List ℕ)) → IfSome before (PutsPieces opened [])
+    puts : (before : Option (List ℕ)) → IfSome (stream_pieces before) (PutsPieces opened [])
     puts None = tt
-    puts (Some given) = no_puts opened given
+    puts (Some given) = no_puts opened (stream_front given).pieces
 
     no_answer : (bytes : List ℕ) (before : Option (List ℕ)) → AnswersOr name opened bytes before (reads_of new) (Err stop.OutOfMemory)
     no_answer bytes None = tt

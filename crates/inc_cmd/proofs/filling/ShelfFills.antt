@@ -9,14 +9,15 @@ use Rattle.inc_io.specs.Contents.{Contents}
 use Rattle.inc_disk.specs.Disk.{DiskState, MayHaveLeft, Now, reads_of}
 use Rattle.inc_disk.specs.Log.{IsImageOf, Log, MayHaveLeftFile, MayHaveLeftOf, contents_of, entries_of, newest_of}
 use Rattle.inc_disk.proofs.LogLemmas.{get_contents, joins_images, newest_other, newest_same}
+use Rattle.inc_frame.specs.declared.piece.Piece.{Piece}
 use Rattle.inc_layout.specs.declared.opened.Opened.{Opened}
 use Rattle.inc_words.specs.Endings.{AnswersAs, EndsAs, refused}
 use Rattle.inc_words.specs.Refusals.{missing}
 use Rattle.inc_words.specs.declared.outcome.CommandOutcome.{CommandOutcome}
 use Rattle.inc_words.specs.declared.stop.Stop.{Stop}
 use Rattle.inc_words.specs.declared.stop.Stop.TheVariants as stop
-use Rattle.inc_cmd.specs.Commands.Fill.{EndsFull, fill_answer, fill_over, fillable_of}
-use Rattle.inc_cmd.specs.Commands.FillMoments.{EndsAcknowledged, EndsSettled, ExtendsOnly, KeepsReached, LeavesFilled, LeavesOld}
+use Rattle.inc_cmd.specs.Commands.Fill.{EndsFull, fill_stored, fill_over, fillable_of}
+use Rattle.inc_cmd.specs.Commands.FillMoments.{EndsAcknowledged, EndsSettled, ExtendsOnly, KeepsReached, LeavesFilled, LeavesOld, stream_pieces}
 use Rattle.inc_cmd.specs.FilledDisks.{AnswersFile, FillsDisk, LeavesDisk, ReachesSince, StaysAsLent}
 use Rattle.inc_cmd.specs.Runs.{IfLogs, status_of}
 use Rattle.inc_cmd.proofs.MakeLemmas.{not_later}
@@ -32,18 +33,18 @@ pub same_extends : (before after : Option Log) (name : List ℕ) → after ≡ b
 same_extends None after name same = tt
 same_extends (Some log) after name same = subst (λ (now : Option Log). IfSome now (ExtendsOnly name log)) (sym same) (record { absent = λ e. refl; own = ([], refl) })
 
-pub same_leaves : (before after : Option Log) (name : List ℕ) (given : Option (List ℕ)) → after ≡ before → IfLogs before after (LeavesFilled name given)
-same_leaves None after name given same = tt
-same_leaves (Some log) after name given same = subst (λ (now : Option Log). IfSome now (LeavesFilled name given log)) (sym same) (inl (now_image name log))
+pub same_leaves : (before after : Option Log) (name : List ℕ) (pieces : Option (List Piece)) → after ≡ before → IfLogs before after (LeavesFilled name pieces)
+same_leaves None after name pieces same = tt
+same_leaves (Some log) after name pieces same = subst (λ (now : Option Log). IfSome now (LeavesFilled name pieces log)) (sym same) (inl (now_image name log))
 
 none_there : (newest : Option DiskState) (first : DiskState) → false ≡ is_some newest → newest ≡ Some first → ⊥
 none_there None first e is = absurd (cc)
 none_there (Some disk) first e is = absurd (cc)
 
-pub missing_settled : (before after : Option Log) (name : List ℕ) (given : Option (List ℕ)) → after ≡ before → IfSome before (λ log. false ≡ is_some (newest_of name log)) → IfLogs before after (EndsSettled name given)
-missing_settled None after name given same none = tt
-missing_settled (Some log) after name given same none =
-    subst (λ (now : Option Log). IfSome now (EndsSettled name given log)) (sym same) (λ first opened stood judged. absurd (none_there (newest_of name log) first none stood))
+pub missing_settled : (before after : Option Log) (name : List ℕ) (pieces : Option (List Piece)) → after ≡ before → IfSome before (λ log. false ≡ is_some (newest_of name log)) → IfLogs before after (EndsSettled name pieces)
+missing_settled None after name pieces same none = tt
+missing_settled (Some log) after name pieces same none =
+    subst (λ (now : Option Log). IfSome now (EndsSettled name pieces log)) (sym same) (λ plain first opened stood judged. absurd (none_there (newest_of name log) first none stood))
 
 pub stopped_settled : {P : Type 0} (why : Stop) → status_of (Err why) ≢ 5 → status_of (Err why) ≢ 6 → P
 stopped_settled stop.Fault five six = absurd (five refl)
@@ -59,21 +60,21 @@ no_file log name none = get_contents log name ∙ mapped (newest_of name log) no
     mapped (Some disk) e = absurd (cc)
 
 missing_answer : (name : List ℕ) (files : Contents) (given : List ℕ) (stored : Option (List ℕ)) (now : Option Contents) (outcome : CommandOutcome) → stored ≡ None → now ≡ Some files
-    → EndsAs (refused name missing) outcome → AnswersAs (fill_answer name files given stored) outcome now
+    → EndsAs (refused name missing) outcome → AnswersAs (fill_stored name files given stored) outcome now
 missing_answer name files given (Some bytes) now outcome none same ends = absurd (cc)
 missing_answer name files given None now outcome none same ends = record { status_is = ends.status_is; text_is = ends.text_is; after_is = same }
 
 pub missing_answers : (told now : Option Contents) (log : Option Log) (left : Option (List ℕ)) (name : List ℕ) (result : Result CommandOutcome Stop) → told ≡ option_map contents_of log → now ≡ told
     → IfSome log (λ entries. false ≡ is_some (newest_of name entries)) → IfOk result (EndsAs (refused name missing))
-    → IfSome told (λ files. IfSome left (λ given. IfOk result (λ outcome. outcome.status.0 ≢ 7 → AnswersAs (fill_answer name files given (get files name)) outcome now)))
+    → IfSome told (λ files. IfSome left (λ given. IfOk result (λ outcome. outcome.status.0 ≢ 7 → AnswersAs (fill_stored name files given (get files name)) outcome now)))
 missing_answers told now None left name result is same none ends =
-    subst (λ (t : Option Contents). IfSome t (λ files. IfSome left (λ given. IfOk result (λ outcome. outcome.status.0 ≢ 7 → AnswersAs (fill_answer name files given (get files name)) outcome now)))) (sym is) tt
+    subst (λ (t : Option Contents). IfSome t (λ files. IfSome left (λ given. IfOk result (λ outcome. outcome.status.0 ≢ 7 → AnswersAs (fill_stored name files given (get files name)) outcome now)))) (sym is) tt
 missing_answers told now (Some log) left name result is same none ends =
-    subst (λ (t : Option Contents). IfSome t (λ files. IfSome left (λ given. IfOk result (λ outcome. outcome.status.0 ≢ 7 → AnswersAs (fill_answer name files given (get files name)) outcome now)))) (sym is)
+    subst (λ (t : Option Contents). IfSome t (λ files. IfSome left (λ given. IfOk result (λ outcome. outcome.status.0 ≢ 7 → AnswersAs (fill_stored name files given (get files name)) outcome now)))) (sym is)
     (by_given left result ends)
   where
     by_given : (left : Option (List ℕ)) (result : Result CommandOutcome Stop) → IfOk result (EndsAs (refused name missing))
-        → IfSome left (λ given. IfOk result (λ outcome. outcome.status.0 ≢ 7 → AnswersAs (fill_answer name (contents_of log) given (get (contents_of log) name)) outcome now))
+        → IfSome left (λ given. IfOk result (λ outcome. outcome.status.0 ≢ 7 → AnswersAs (fill_stored name (contents_of log) given (get (contents_of log) name)) outcome now))
     by_given None result ends = tt
     by_given (Some given) (Err why) ends = tt
     by_given (Some given) (Ok outcome) ends = λ other. missing_answer name (contents_of log) given (get (contents_of log) name) now outcome (no_file log name none) (same ∙ is) ends
@@ -136,8 +137,8 @@ module _ (name : List ℕ) (log : Log) (new : List DiskState) (first : DiskState
           let start : length log - length log ≡ 0 = omega arith in
           subst (λ (newest : Option DiskState). IsImageOf newest (Some bytes)) (sym stood) (stays bytes (from_first new bytes (subst (λ (moment : ℕ). MayHaveLeft moment new bytes) start here)))
 
-  reached : (given : Option (List ℕ)) → ReachesSince given first new → LeavesFilled name given log (entries_of name new ++ log)
-  reached given reaches = inr (record {
+  reached : (pieces : Option (List Piece)) → ReachesSince pieces first new → LeavesFilled name pieces log (entries_of name new ++ log)
+  reached pieces reaches = inr (record {
     first = first;
     stood = stood;
     opened = reaches.opened;
@@ -158,32 +159,32 @@ module _ (name : List ℕ) (log : Log) (new : List DiskState) (first : DiskState
           let second : suc (suc (length log)) - length log ≡ 2 = omega arith in
           reaches.each bytes (subst (λ (moment : ℕ). MayHaveLeft moment new bytes) second here)
 
-  pub leaves_filled : (given : Option (List ℕ)) → LeavesDisk given first new → LeavesFilled name given log (entries_of name new ++ log)
-  leaves_filled given (inl stays) = inl (stays_old stays)
-  leaves_filled given (inr reaches) = reached given reaches
+  pub leaves_filled : (pieces : Option (List Piece)) → LeavesDisk pieces first new → LeavesFilled name pieces log (entries_of name new ++ log)
+  leaves_filled pieces (inl stays) = inl (stays_old stays)
+  leaves_filled pieces (inr reaches) = reached pieces reaches
 
-  now_acknowledged : (given : Option (List ℕ)) (opened : Opened) (states : List DiskState) → states ≡ new → ((more : List DiskState) × (new ≡ more ++ (first ∷ []))) → Now states (EndsAcknowledged opened given)
-      → (now : DiskState) × (newest_of name (entries_of name new ++ log) ≡ Some now) × EndsAcknowledged opened given now
-  now_acknowledged given opened [] is grew holds = absurd (none grew.0 (is ∙ grew.1))
+  now_acknowledged : (pieces : Option (List Piece)) (opened : Opened) (states : List DiskState) → states ≡ new → ((more : List DiskState) × (new ≡ more ++ (first ∷ []))) → Now states (EndsAcknowledged opened pieces)
+      → (now : DiskState) × (newest_of name (entries_of name new ++ log) ≡ Some now) × EndsAcknowledged opened pieces now
+  now_acknowledged pieces opened [] is grew holds = absurd (none grew.0 (is ∙ grew.1))
     where
       none : (more : List DiskState) → [] ≡ more ++ (first ∷ []) → ⊥
       none [] e = absurd (cc)
       none (disk ∷ past) e = absurd (cc)
-  now_acknowledged given opened (disk ∷ past) is grew holds = (disk, (joins_images name new log).newest disk past (sym is), holds)
+  now_acknowledged pieces opened (disk ∷ past) is grew holds = (disk, (joins_images name new log).newest disk past (sym is), holds)
 
-  pub ends_settled : (given : Option (List ℕ)) (result : Result CommandOutcome Stop) → FillsDisk name first new given result → status_of result ≢ 5 → status_of result ≢ 6 → EndsSettled name given log (entries_of name new ++ log)
-  ends_settled given result fills five six other opened other_stood judged =
+  pub ends_settled : (given : Option (List ℕ)) (result : Result CommandOutcome Stop) → FillsDisk name first new given result → status_of result ≢ 5 → status_of result ≢ 6 → EndsSettled name (stream_pieces given) log (entries_of name new ++ log)
+  ends_settled given result fills five six plain other opened other_stood judged =
       let same : other ≡ first = (let both : Some other ≡ Some first = sym other_stood ∙ stood in cc) in
-      now_acknowledged given opened new refl fills.grew (fills.settled five six opened (ap (λ (d : DiskState). fillable_of d.reads) (sym same) ∙ judged))
+      now_acknowledged (stream_pieces given) opened new refl fills.grew (fills.settled five six opened (ap (λ (d : DiskState). fillable_of d.reads) (sym same) ∙ judged))
 
   over_bytes : (files : Contents) (given : List ℕ) (stored : Option (List ℕ)) (outcome : CommandOutcome) (now : Option Contents) → stored ≡ Some first.reads → AnswersFile (fill_over name given first.reads) outcome (reads_of new)
-      → now ≡ Some (insert files name (fill_over name given first.reads).bytes) → AnswersAs (fill_answer name files given stored) outcome now
+      → now ≡ Some (insert files name (fill_over name given first.reads).bytes) → AnswersAs (fill_stored name files given stored) outcome now
   over_bytes files given stored outcome now is answers after =
-      subst (λ (s : Option (List ℕ)). AnswersAs (fill_answer name files given s) outcome now) (sym is)
+      subst (λ (s : Option (List ℕ)). AnswersAs (fill_stored name files given s) outcome now) (sym is)
       (record { status_is = answers.ends.status_is; text_is = answers.ends.text_is; after_is = after })
 
   pub answers_over : (given : Option (List ℕ)) (result : Result CommandOutcome Stop) (now : Option Contents) → FillsDisk name first new given result → now ≡ Some (contents_of (entries_of name new ++ log))
-      → IfSome given (λ given. IfOk result (λ outcome. outcome.status.0 ≢ 7 → AnswersAs (fill_answer name (contents_of log) given (get (contents_of log) name)) outcome now))
+      → IfSome given (λ given. IfOk result (λ outcome. outcome.status.0 ≢ 7 → AnswersAs (fill_stored name (contents_of log) given (get (contents_of log) name)) outcome now))
   answers_over None result now fills is = tt
   answers_over (Some given) (Err why) now fills is = tt
   answers_over (Some given) (Ok outcome) now fills is = λ other.
@@ -230,20 +231,20 @@ module _ (name : List ℕ) (before mid after : Option Log) (lent new : List Disk
     own = (new, refl);
   })
 
-  pub given_leaves : IfLogs before after (LeavesFilled name given)
-  given_leaves = by_log (LeavesFilled name given) before refl (λ log is.
-      let there = lent_as log is in leaves_filled name log new there.first there.stood given (fills there.first there.lent_is).moments)
+  pub given_leaves : IfLogs before after (LeavesFilled name (stream_pieces given))
+  given_leaves = by_log (LeavesFilled name (stream_pieces given)) before refl (λ log is.
+      let there = lent_as log is in leaves_filled name log new there.first there.stood (stream_pieces given) (fills there.first there.lent_is).moments)
 
-  pub given_settled : status_of result ≢ 5 → status_of result ≢ 6 → IfLogs before after (EndsSettled name given)
-  given_settled five six = by_log (EndsSettled name given) before refl (λ log is.
+  pub given_settled : status_of result ≢ 5 → status_of result ≢ 6 → IfLogs before after (EndsSettled name (stream_pieces given))
+  given_settled five six = by_log (EndsSettled name (stream_pieces given)) before refl (λ log is.
       let there = lent_as log is in ends_settled name log new there.first there.stood given result (fills there.first there.lent_is) five six)
 
   pub given_answers : (told now : Option Contents) → told ≡ option_map contents_of before → now ≡ option_map contents_of after
-      → IfSome told (λ files. IfSome given (λ given. IfOk result (λ outcome. outcome.status.0 ≢ 7 → AnswersAs (fill_answer name files given (get files name)) outcome now)))
+      → IfSome told (λ files. IfSome given (λ given. IfOk result (λ outcome. outcome.status.0 ≢ 7 → AnswersAs (fill_stored name files given (get files name)) outcome now)))
   given_answers told now told_is now_is =
-      subst (λ (t : Option Contents). IfSome t (λ files. IfSome given (λ given. IfOk result (λ outcome. outcome.status.0 ≢ 7 → AnswersAs (fill_answer name files given (get files name)) outcome now)))) (sym told_is) (go before refl)
+      subst (λ (t : Option Contents). IfSome t (λ files. IfSome given (λ given. IfOk result (λ outcome. outcome.status.0 ≢ 7 → AnswersAs (fill_stored name files given (get files name)) outcome now)))) (sym told_is) (go before refl)
     where
-      go : (b : Option Log) → before ≡ b → IfSome (option_map contents_of b) (λ files. IfSome given (λ given. IfOk result (λ outcome. outcome.status.0 ≢ 7 → AnswersAs (fill_answer name files given (get files name)) outcome now)))
+      go : (b : Option Log) → before ≡ b → IfSome (option_map contents_of b) (λ files. IfSome given (λ given. IfOk result (λ outcome. outcome.status.0 ≢ 7 → AnswersAs (fill_stored name files given (get files name)) outcome now)))
       go None is = tt
       go (Some log) is = let there = lent_as log is in
           answers_over name log new there.first there.stood given result now (fills there.first there.lent_is) (now_is ∙ ap (option_map contents_of) (after_is log is))

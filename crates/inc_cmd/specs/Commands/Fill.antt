@@ -1,6 +1,7 @@
--- `fill NAME`: the file is judged first, then the counts of its status record are set to the blocks that are there, and then the pieces of
--- the stream in the input are taken in their order, up to the first one that the file refuses, and to the stream's end or its fault.
-use Rattle.std.specs.Prelude.{◌≡◌, ℕ, ◌^◌, ◌≤◌, nat_le, if◌then◌else◌, List, length, take, Option, Some, None, Result, Ok, Err}
+-- `fill NAME`: the name is judged first, and only a file that keeps its id is filled. Its layout is judged, then the counts of its status
+-- record are set to the blocks that are there, and then the pieces of the stream in the input are taken in their order, up to the first one
+-- that the file refuses, and to the stream's end or its fault.
+use Rattle.std.specs.Prelude.{◌≡◌, ℕ, ◌^◌, ◌≤◌, nat_le, Bool, true, false, if◌then◌else◌, List, length, take, Option, Some, None, Result, Ok, Err}
 use Rattle.std.specs.FinMap.{get, insert}
 use Rattle.inc_io.specs.Contents.{Contents}
 use Rattle.inc_frame.specs.Fronts.{StreamFront, stream_front}
@@ -17,6 +18,11 @@ use Rattle.inc_filling.specs.Refusals.{first_refusal}
 use Rattle.inc_filling.specs.declared.refusal.PieceRefusal.{PieceRefusal}
 use Rattle.inc_filling.specs.declared.refusal.PieceRefusal.TheVariants.{Refused, UnknownFile}
 use Rattle.inc_script.specs.Words.{fill_word, frame_word}
+use Rattle.inc_mapped.specs.Mapping.{Mapping}
+use Rattle.inc_volume.specs.Verdicts.{verdict_of}
+use Rattle.inc_volume.specs.declared.verdict.Verdict.{Verdict}
+use Rattle.inc_volume.specs.declared.verdict.Verdict.TheVariants as verdict
+use Rattle.inc_cmd.specs.Commands.Names.{by_verdict, refused_as_mapped}
 use Rattle.inc_words.specs.Endings.{Answer, Ending, done, leaving, refused, refused_by, stream_refused}
 use Rattle.inc_words.specs.Refusals.{layout_word, missing, unknown_file}
 use Rattle.inc_words.specs.Texts.{fill_line}
@@ -84,9 +90,29 @@ fill_over name given bytes = fill_judged name given bytes (fillable_of bytes)
 abbrev pub answer_over : List ℕ → Contents → FileAnswer → Answer
 answer_over name files answer = record { status = answer.ending.status; text = answer.ending.text; after = insert files name answer.bytes }
 
-abbrev pub fill_answer : List ℕ → Contents → List ℕ → Option (List ℕ) → Answer
-fill_answer name files given None = leaving files (refused name missing)
-fill_answer name files given (Some bytes) = answer_over name files (fill_over name given bytes)
+-- over what stands under the name
+abbrev pub fill_stored : List ℕ → Contents → List ℕ → Option (List ℕ) → Answer
+fill_stored name files given None = leaving files (refused name missing)
+fill_stored name files given (Some bytes) = answer_over name files (fill_over name given bytes)
+
+-- ---- by the verdict of the name
+
+-- only of such a name the file is mounted
+abbrev pub keeps_own_id : Option Verdict → Bool
+keeps_own_id None = false
+keeps_own_id (Some (verdict.Plain id complete)) = true
+keeps_own_id (Some (verdict.Mapped original offset size)) = false
+keeps_own_id (Some (verdict.SameId id)) = false
+keeps_own_id (Some (verdict.NoOriginal original)) = false
+keeps_own_id (Some (verdict.PastOriginal original)) = false
+keeps_own_id (Some (verdict.Refused fault)) = false
+
+abbrev pub fill_by : List ℕ → Contents → List ℕ → Option Verdict → Answer
+fill_by name files given found =
+    by_verdict name (leaving files) (fill_stored name files given (get files name)) (λ (original : List ℕ) (mapping : Mapping). leaving files (refused_as_mapped name)) found
+
+abbrev pub fill_answer : List ℕ → Contents → List ℕ → Answer
+fill_answer name files given = fill_by name files given (verdict_of files name)
 
 -- ---- where its history is full
 

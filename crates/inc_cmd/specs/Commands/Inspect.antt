@@ -1,4 +1,4 @@
--- `inspect NAME`: what a file's layout says of itself, in seven lines.
+-- `inspect NAME`: what a file's layout says of itself, in seven lines; of a mapped name what its header says, in one.
 use Rattle.std.specs.Prelude.{ℕ, ◌++◌, List, [], ◌∷◌, take, drop, count_by, Option, Some, None, Result, Ok, Err, codes}
 use Rattle.std.specs.Fmt.{decimal}
 use Rattle.hex.specs.Hex.{encode_lower}
@@ -8,6 +8,7 @@ use Rattle.inc_signature.specs.declared.signature.SigInfo.{SigInfo}
 use Rattle.inc_entry.specs.Stored.{is_compressed_class, is_damaged_class, is_open_class}
 use Rattle.inc_entry.specs.declared.classes.Class.{Class}
 use Rattle.inc_layout.specs.Backing.{laid_of}
+use Rattle.inc_mapped.specs.Mapping.{Mapping}
 use Rattle.inc_layout.specs.fixed.Fixed.{map_base, map_count}
 use Rattle.inc_layout.specs.declared.fault.LayoutFault.{LayoutFault}
 use Rattle.inc_layout.specs.declared.opened.Layout.{Layout}
@@ -52,6 +53,14 @@ filled_line filled_data data_count filled_hash hash_count = codes "filled data "
 -- `damaged X compressed Y`
 unfoldable pub damaged_line : ℕ → ℕ → List ℕ
 damaged_line damaged compressed = codes "damaged " ++ decimal damaged ++ codes " compressed " ++ decimal compressed ++ 10 ∷ []
+
+-- `S offset O`
+unfoldable pub size_and_offset : Mapping → List ℕ
+size_and_offset mapping = decimal mapping.size ++ codes " offset " ++ decimal mapping.offset
+
+-- `mapped size S offset O original ID`
+unfoldable pub mapping_line : Mapping → List ℕ → List ℕ
+mapping_line mapping original = codes "mapped size " ++ size_and_offset mapping ++ codes " original " ++ encode_lower original ++ 10 ∷ []
 
 abbrev pub blob_line : Option SigRecord → List ℕ
 blob_line None = no_signature_line

@@ -1,5 +1,5 @@
 // A fill of a file from the stream in the input.
-ghost use Rattle.std.specs.Prelude.{◌≡◌, ◌≢◌, ◌⊎◌, ℕ, ◌^◌, ◌<◌, ◌≤◌, [], ◌∷◌, None, Err, IfSome, IfOk, IfErr};
+ghost use Rattle.std.specs.Prelude.{◌≡◌, ◌≢◌, ◌⊎◌, ℕ, ◌^◌, ◌<◌, ◌≤◌, List, [], ◌∷◌, false, Option, None, Some, Err, IfSome, IfOk, IfErr};
 ghost use Rattle.std.specs.FinMap.{get};
 ghost use Rattle.inc_io.specs.Causes.{HasCauseAt};
 ghost use Rattle.inc_io.specs.Outside.{NoneOut};
@@ -10,10 +10,12 @@ ghost use Rattle.inc_recover.specs.Mounting.{FaultCause, GivesMountFault, IsOwnM
 ghost use Rattle.inc_cell.specs.seen.Opens.{cell_on};
 ghost use Rattle.inc_cell.specs.seen.Seen.{state_now};
 ghost use Rattle.inc_filling.specs.Fillable.{IsFillable};
-ghost use Rattle.inc_cmd.specs.Commands.Fill.{EndsFull, fault_place, fill_answer, piece_word};
-ghost use Rattle.inc_cmd.specs.Commands.FillMoments.{EndsSettled, ExtendsOnly, LeavesFilled};
+ghost use Rattle.inc_cmd.specs.Commands.Fill.{EndsFull, fault_place, fill_answer, fill_by, fill_stored, keeps_own_id, piece_word};
+ghost use Rattle.inc_cmd.specs.Commands.FillMoments.{EndsSettled, ExtendsOnly, LeavesFilled, stream_pieces};
 ghost use Rattle.inc_cmd.specs.FilledDisks.{FillsCell, FillsDisk, HadNotFailed, IsRefusedFile, TellsFill, filled_ending};
 ghost use Rattle.inc_cmd.specs.Runs.{HasEitherCause, IfLogs, TakesSome, status_of};
+ghost use Rattle.inc_io.specs.Contents.{Contents};
+ghost use Rattle.inc_volume.specs.Verdicts.{IsByFile, verdict_of};
 ghost use Rattle.inc_words.specs.Endings.{AnswersAs, EndsAs};
 ghost use Rattle.inc_words.specs.declared.stop.Stop.TheVariants.{Fault as stop_fault, OutOfMemory as stop_out_of_memory};
 
@@ -26,16 +28,17 @@ use inc_layout::{LayoutFault, Mounted, open_shape};
 use inc_model::Window;
 use inc_recover::{MountFault, mount_file};
 use inc_script::{fill_word, frame_word};
+use inc_volume::{Verdict, judge};
 use inc_words::{
-    CommandOutcome, Status, Stop, fill_line, missing, refuse, refuse_layout, refuse_stream,
-    too_long, unknown_file,
+    CommandOutcome, Status, Stop, fill_line, missing, no_original, past_original, refuse,
+    refuse_layout, refuse_stream, same_id, too_long, unknown_file,
 };
 use std::alloc::Global;
 
 /// The command is the only one that fills the file.
 const WINDOW: Window = Window { who: 0, count: 0 };
 
-/// Fills the pieces of the stream in the input into the file of this name.
+/// Fills the pieces of the stream in the input into the file of this name. The name is judged before anything of the input is read.
 pub fn fill_name<S: Shelf, I: Source>(
     alloc: Global,
     name: &Name,
@@ -44,12 +47,98 @@ pub fn fill_name<S: Shelf, I: Source>(
 ) -> Result<CommandOutcome, Stop>
     requires { NoneOut (S.out shelf.old) }
     ensures answer { IfSome (S.contents (S.kept shelf.old)) (λ files. IfSome (I.left input.old) (λ given. IfOk result (λ outcome.
-        outcome.status.0 ≢ 7 → AnswersAs (fill_answer name.now files given (get files name.now)) outcome (S.contents (S.kept shelf.new))))) }
+        outcome.status.0 ≢ 7 → AnswersAs (fill_answer name.now files given) outcome (S.contents (S.kept shelf.new))))) }
     ensures full { IfSome (S.contents (S.kept shelf.old)) (λ files. IfSome (I.left input.old) (λ given. IfOk result (λ outcome.
         outcome.status.0 ≡ 7 → EndsFull name.now files given (S.contents (S.kept shelf.new))))) }
     ensures others { IfLogs (S.log (S.kept shelf.old)) (S.log (S.kept shelf.new)) (ExtendsOnly name.now) }
-    ensures moments { IfLogs (S.log (S.kept shelf.old)) (S.log (S.kept shelf.new)) (LeavesFilled name.now (I.left input.old)) }
-    ensures settled { status_of result ≢ 5 → status_of result ≢ 6 → IfLogs (S.log (S.kept shelf.old)) (S.log (S.kept shelf.new)) (EndsSettled name.now (I.left input.old)) }
+    ensures moments { IfLogs (S.log (S.kept shelf.old)) (S.log (S.kept shelf.new)) (LeavesFilled name.now (stream_pieces (I.left input.old))) }
+    ensures settled { status_of result ≢ 5 → status_of result ≢ 6 → IfLogs (S.log (S.kept shelf.old)) (S.log (S.kept shelf.new)) (EndsSettled name.now (stream_pieces (I.left input.old))) }
+    ensures took { TakesSome (I.left input.old) (I.left input.new) }
+    ensures silent { IfOk result (λ outcome. outcome.status.0 ≡ 7 → outcome.text.items ≡ []) }
+    ensures words { status_of result ≢ 1 }
+    ensures statuses { IfOk result (λ outcome. (outcome.status.0 < 5) ⊎ (outcome.status.0 ≡ 7)) }
+    ensures cause { HasEitherCause (S.faults shelf.old) (S.faults shelf.new) (I.faults input.old) (I.faults input.new) result }
+    ensures back { NoneOut (S.out shelf.new) }
+{
+    match judge(alloc, shelf, name)? {
+        Some(verdict) => fill_judged(alloc, name, verdict, shelf, input),
+        None => refuse(alloc, name, missing()),
+    }
+}
+
+/// Fills the file of a name with this verdict, where the file keeps its id. Any other name is refused.
+fn fill_judged<S: Shelf, I: Source>(
+    alloc: Global,
+    name: &Name,
+    verdict: Verdict,
+    shelf: &mut S,
+    input: &mut I,
+) -> Result<CommandOutcome, Stop>
+    requires none_out { NoneOut (S.out shelf.old) }
+    requires judged { IfSome (S.contents (S.kept shelf.old)) (λ files. Some verdict ≡ verdict_of files name.now) }
+    requires own { IsByFile verdict }
+    ensures answer { IfSome (S.contents (S.kept shelf.old)) (λ files. IfSome (I.left input.old) (λ given. IfOk result (λ outcome.
+        outcome.status.0 ≢ 7 → AnswersAs (fill_by name.now files given (Some verdict)) outcome (S.contents (S.kept shelf.new))))) }
+    ensures full { IfSome (S.contents (S.kept shelf.old)) (λ files. IfSome (I.left input.old) (λ given. IfOk result (λ outcome.
+        outcome.status.0 ≡ 7 → EndsFull name.now files given (S.contents (S.kept shelf.new))))) }
+    ensures others { IfLogs (S.log (S.kept shelf.old)) (S.log (S.kept shelf.new)) (ExtendsOnly name.now) }
+    ensures moments { IfLogs (S.log (S.kept shelf.old)) (S.log (S.kept shelf.new)) (LeavesFilled name.now (stream_pieces (I.left input.old))) }
+    ensures settled { status_of result ≢ 5 → status_of result ≢ 6 → IfLogs (S.log (S.kept shelf.old)) (S.log (S.kept shelf.new)) (EndsSettled name.now (stream_pieces (I.left input.old))) }
+    ensures took { TakesSome (I.left input.old) (I.left input.new) }
+    ensures silent { IfOk result (λ outcome. outcome.status.0 ≡ 7 → outcome.text.items ≡ []) }
+    ensures words { status_of result ≢ 1 }
+    ensures statuses { IfOk result (λ outcome. (outcome.status.0 < 5) ⊎ (outcome.status.0 ≡ 7)) }
+    ensures cause { HasEitherCause (S.faults shelf.old) (S.faults shelf.new) (I.faults input.old) (I.faults input.new) result }
+    ensures back { NoneOut (S.out shelf.new) }
+{
+    if keeps_own_id(&verdict) {
+        fill_own(alloc, name, shelf, input)
+    } else {
+        refuse_verdict(alloc, name, verdict)
+    }
+}
+
+fn keeps_own_id(verdict: &Verdict) -> bool
+    ensures value { result ≡ keeps_own_id (Some verdict.now) }
+{
+    matches!(verdict, Verdict::Plain { .. })
+}
+
+/// The outcome of a name that isn't filled.
+#[tactic(auto, using(crate::proofs::filling::Verdicts::stays_as))]
+fn refuse_verdict(alloc: Global, name: &Name, verdict: Verdict) -> Result<CommandOutcome, Stop>
+    requires own { IsByFile verdict }
+    requires other { keeps_own_id (Some verdict) ≡ false }
+    ensures answer { (files : Contents) (given : List ℕ) (after : Option Contents) → after ≡ Some files
+        → IfOk result (λ outcome. AnswersAs (fill_by name.now files given (Some verdict)) outcome after) }
+    ensures refused { IfOk result (λ outcome. outcome.status.0 ≡ 3) }
+    ensures memory { IfErr result (λ stop. stop ≡ stop_out_of_memory) }
+{
+    match verdict {
+        Verdict::Mapped { .. } => refuse_layout(alloc, name, LayoutFault::Mapped),
+        Verdict::SameId { .. } => refuse(alloc, name, same_id()),
+        Verdict::NoOriginal { .. } => refuse(alloc, name, no_original()),
+        Verdict::PastOriginal { .. } => refuse(alloc, name, past_original()),
+        Verdict::Refused(fault) => refuse_layout(alloc, name, fault),
+        Verdict::Plain { .. } => unreachable!(),
+    }
+}
+
+/// Fills the pieces of the stream into the file under the name.
+fn fill_own<S: Shelf, I: Source>(
+    alloc: Global,
+    name: &Name,
+    shelf: &mut S,
+    input: &mut I,
+) -> Result<CommandOutcome, Stop>
+    requires { NoneOut (S.out shelf.old) }
+    ensures answer { IfSome (S.contents (S.kept shelf.old)) (λ files. IfSome (I.left input.old) (λ given. IfOk result (λ outcome.
+        outcome.status.0 ≢ 7 → AnswersAs (fill_stored name.now files given (get files name.now)) outcome (S.contents (S.kept shelf.new))))) }
+    ensures full { IfSome (S.contents (S.kept shelf.old)) (λ files. IfSome (I.left input.old) (λ given. IfOk result (λ outcome.
+        outcome.status.0 ≡ 7 → EndsFull name.now files given (S.contents (S.kept shelf.new))))) }
+    ensures others { IfLogs (S.log (S.kept shelf.old)) (S.log (S.kept shelf.new)) (ExtendsOnly name.now) }
+    ensures moments { IfLogs (S.log (S.kept shelf.old)) (S.log (S.kept shelf.new)) (LeavesFilled name.now (stream_pieces (I.left input.old))) }
+    ensures settled { status_of result ≢ 5 → status_of result ≢ 6 → IfLogs (S.log (S.kept shelf.old)) (S.log (S.kept shelf.new)) (EndsSettled name.now (stream_pieces (I.left input.old))) }
     ensures took { TakesSome (I.left input.old) (I.left input.new) }
     ensures silent { IfOk result (λ outcome. outcome.status.0 ≡ 7 → outcome.text.items ≡ []) }
     ensures words { status_of result ≢ 1 }
@@ -221,7 +310,7 @@ fn words_of_end(alloc: Global, name: &Name, filled: Filled) -> Result<CommandOut
             text: fill_line(alloc, name.as_slice(), filled.written, filled.present)?,
         }),
         FillEnd::Refused(refusal) => refuse(alloc, name, piece_word(refusal)),
-        FillEnd::Stream(fault) => { refuse_stream(alloc, frame_word(fault), fault_place(fault)) }
+        FillEnd::Stream(fault) => { refuse_stream(alloc, frame_word(fault), fault_place(fault)?) }
     }
 }
 
@@ -235,16 +324,17 @@ fn piece_word(refusal: PieceRefusal) -> &'static [u8]
     }
 }
 
-/// Where a stream is refused.
-fn fault_place(fault: FrameFault) -> u64
-    ensures value { result ≡ fault_place fault }
+/// Where a stream is refused. Want of memory has no place, and ends the command as such.
+fn fault_place(fault: FrameFault) -> Result<u64, Stop>
+    ensures value { IfOk result (λ at. at ≡ fault_place fault) }
+    ensures memory { IfErr result (λ stop. stop ≡ stop_out_of_memory) }
 {
     match fault {
-        FrameFault::BadHello { at } => at,
-        FrameFault::BadKind { at } => at,
-        FrameFault::BadLength { at } => at,
-        FrameFault::Cut { at } => at,
-        FrameFault::TooLong { at } => at,
-        FrameFault::OutOfMemory => 0,
+        FrameFault::BadHello { at } => Ok(at),
+        FrameFault::BadKind { at } => Ok(at),
+        FrameFault::BadLength { at } => Ok(at),
+        FrameFault::Cut { at } => Ok(at),
+        FrameFault::TooLong { at } => Ok(at),
+        FrameFault::OutOfMemory => Err(Stop::OutOfMemory),
     }
 }

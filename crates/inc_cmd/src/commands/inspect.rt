@@ -132,8 +132,9 @@ fn no_root_line(alloc: Global) -> Result<Vec<u8>, OutOfMemory>
     b"root none\n".to_vec(alloc)
 }
 
+/// `root R`
 #[tactic(auto, unfolding(crate::specs::Commands::Inspect::root_line))]
-fn root_line(alloc: Global, root: &Digest32) -> Result<Vec<u8>, OutOfMemory>
+pub fn root_line(alloc: Global, root: &Digest32) -> Result<Vec<u8>, OutOfMemory>
     ensures value { IfOk result (λ line. line.items ≡ root_line root.now) }
 {
     let root = hex::encode(alloc, root.as_slice())?;

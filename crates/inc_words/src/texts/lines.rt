@@ -1,5 +1,5 @@
 ghost use Rattle.std.specs.Prelude.{◌≡◌, IfOk};
-ghost use Rattle.inc_words.specs.Texts.{block_line, checked_line, corrupt_reason, filled_counts, fill_line, made_counts, made_line, part_of, path_absent_reason, refused_line, stream_line, words_line};
+ghost use Rattle.inc_words.specs.Texts.{big_counts, big_line, block_line, checked_line, corrupt_reason, filled_counts, fill_line, made_counts, made_line, part_of, path_absent_reason, refused_line, stream_line, words_line, written_line};
 
 use crate::OutOfMemory;
 use inc_tree::Digest32;
@@ -153,4 +153,47 @@ fn filled_counts(alloc: Global, written: u64, present: u64) -> Result<Vec<u8>, O
     let mut counts = format!(in alloc; " written {written}")?.into_bytes();
     counts.extend_from_slice(format!(in alloc; " present {present}")?.as_bytes())?;
     Ok(counts)
+}
+
+/// `big NAME size S data N hash M`
+#[tactic(auto, unfolding(crate::specs::Texts::big_line))]
+pub fn big_line(
+    alloc: Global,
+    name: &[u8],
+    size: u64,
+    data_count: u32,
+    hash_count: u32,
+) -> Result<Vec<u8>, OutOfMemory>
+    ensures value { IfOk result (λ line. line.items ≡ big_line name.now size data_count hash_count) }
+{
+    let mut line = b"big ".to_vec(alloc)?;
+    line.extend_from_slice(name)?;
+    line.extend_from_slice(big_counts(alloc, size, data_count, hash_count)?.as_slice())?;
+    line.extend_from_slice(b"\n")?;
+    Ok(line)
+}
+
+/// ` size S data N hash M`
+#[tactic(auto, unfolding(crate::specs::Texts::big_counts))]
+fn big_counts(
+    alloc: Global,
+    size: u64,
+    data_count: u32,
+    hash_count: u32,
+) -> Result<Vec<u8>, OutOfMemory>
+    ensures value { IfOk result (λ counts. counts.items ≡ big_counts size data_count hash_count) }
+{
+    let mut counts = format!(in alloc; " size {size}")?.into_bytes();
+    counts.extend_from_slice(format!(in alloc;
+        " data {data_count} hash {hash_count}"
+    )?.as_bytes())?;
+    Ok(counts)
+}
+
+/// `filled W`
+#[tactic(auto, unfolding(crate::specs::Texts::written_line))]
+pub fn written_line(alloc: Global, written: u64) -> Result<Vec<u8>, OutOfMemory>
+    ensures value { IfOk result (λ line. line.items ≡ written_line written) }
+{
+    Ok(format!(in alloc; "filled {written}\n")?.into_bytes())
 }

@@ -1,6 +1,6 @@
 use Rattle.std.proofs.Common.{List, ℕ, sym, ◌∙◌, subst, arith}
 use Rattle.inc_words.specs.Words.{command_in}
-use Rattle.inc_cmd.specs.Runs.{Appends}
+use Rattle.inc_io.specs.Writing.{Appends}
 use Rattle.inc_cmd.proofs.RunLemmas.{front_none, front_sent_of, printed, sent, vouches_sent, words_sent}
 use Rattle.inc_cmd.proofs.run.run_plain.Goals as goal
 

@@ -9,7 +9,7 @@ loop-index-init g c = record {
   quiet = refl;
   some = omega arith;
   path = rw c.new-path.ensures.value (told_kept _ (layout_in c.args.opened.now));
-  checked = rw c.new-lines.ensures.items (told_none _ (layout_in c.args.opened.now));
+  checked = rw c.new-lines.ensures.items (told_none _ (layout_in c.args.opened.now) c.args.part.now);
 }
 
 pub loop-index-preserved : goal.loop-index-preserved
@@ -18,6 +18,6 @@ loop-index-preserved g c = record {
   quiet = c.in_ok-good.ensures.cause.kept (λ e. absurd (cc)) ∙ c.loop-index.invariant.quiet;
   some = (let few = c.in_ok-good.ensures.one in let low = c.loop-index.invariant.some in omega arith);
   path = rw c.loop-index.invariant.kept at c.check_block.ensures.after;
-  checked = rw add-one (told_more _ (layout_in c.args.opened.now) c.loop-index.index c.loop-index.lines.items _ c.loop-index.good c.in_ok-good.field-0 c.loop-index.invariant.checked
+  checked = rw add-one (told_more _ (layout_in c.args.opened.now) c.args.part.now c.loop-index.index c.loop-index.lines.items _ c.loop-index.good c.in_ok-good.field-0 c.loop-index.invariant.checked
       (rw c.loop-index.invariant.kept at c.in_ok-good.ensures.good) (rw c.loop-index.invariant.kept at c.in_ok-good.ensures.line));
 }

@@ -11,5 +11,5 @@ invariant-loop-index g l = record {
   quiet : g.B.Backing.faults l.file ≡ g.B.Backing.faults l.fn.file;
   some : l.good ≤ l.index;
   path : IfSome (g.B.Backing.reads (g.B.Backing.kept l.fn.file)) (λ bytes. AreKept bytes l.opened.areas l.path);
-  checked : IfSome (g.B.Backing.reads (g.B.Backing.kept l.fn.file)) (λ bytes. CheckedTo bytes (layout_in l.opened) l.index l.lines.items l.good);
+  checked : IfSome (g.B.Backing.reads (g.B.Backing.kept l.fn.file)) (λ bytes. CheckedTo bytes (layout_in l.opened) l.part l.index l.lines.items l.good);
 }

@@ -1,5 +1,5 @@
 use Rattle.inc_cmd.proofs.RunLemmas.{over_shows}
-use Rattle.inc_cmd.proofs.commands.over_name.Goals as goal
+use Rattle.inc_cmd.proofs.commands.over_own.Goals as goal
 
 pub returns-clause-shows : goal.returns-clause-shows
 returns-clause-shows g c =
