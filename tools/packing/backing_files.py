@@ -111,6 +111,15 @@ def pack(survey, file_id, unsigned):
     return Packed(front, size, data_count, hash_count, root)
 
 
+# The flag of a header that shows a part of another file.
+MAPPED = 2
+
+
+def mapped_header(file_id, offset, size):
+    """The whole backing file of a mapped name: a header without blocks, which shows so many bytes of another file from an offset on."""
+    return HEADER.pack(MAGIC, 1, HEADER.size, BLOCK, MAPPED, offset, size, file_id)
+
+
 class Told(NamedTuple):
     """What a backing file says of its content."""
 
