@@ -1,0 +1,2 @@
+pub mod fills
+pub mod turns

@@ -1,0 +1,11 @@
+pub mod EachLemmas
+pub mod CheckLemmas
+pub mod EntryLemmas
+pub mod PutLemmas
+pub mod GroupLemmas
+pub mod DeedLemmas
+pub mod SeatSteps
+pub mod GivenLemmas
+pub mod GivenSteps
+pub mod PlaceSteps
+pub mod CallLemmas
